@@ -1,0 +1,81 @@
+-- The bench log of document 01, from its bytes to the lines printed and the replies, by computing.
+use mathlib.Core.Path.{_≡_, refl}
+use Prim.Native.Nat.{ℕ}
+use Prim.Native.Char.{code}
+use Prim.Native.String as text
+use Prim.Native.String.{String}
+use mathlib.Core.List.{List, [], _∷_, _++_}
+use lib.ListN.{length, replicate}
+use Rattle.model.specs.Lists.{sum, between, every}
+use Rattle.model.specs.Bytes.{push, linesOf, digit, byte, bytes, carried, items, hexDigit, hex, checkByte, line}
+use Rattle.model.specs.Frames.{word, words, listOf}
+use Rattle.model.specs.Formula.{Formula, prefix, ahead, one, two, sign, token, spelt, formulasIn, single, formulaOf, sound, weigh}
+use Rattle.model.specs.Formula.Formula.{inRange, not, and, or, possibly, always}
+use Rattle.model.specs.Cut.{Cut, inside, insideAny, join}
+use Rattle.model.specs.Computation.{clock, value, known, isConsistent, counted, clockOk}
+use Rattle.model.specs.Rules.{asTrue, asFalse, passes}
+use Rattle.model.specs.Size.{width, bars, slim, narrow, fits}
+use Rattle.model.specs.Structure.{row, joined, raiseBy, raise, reaches, inSet, belongs, belongsAny, joinRow, joinRows, greatest, keep, buildOn, build}
+use Rattle.model.specs.Basis.{next, upTo, raiseAtom, thenRight, round, onward, after, run, start, intersect, each, pairs, below, lowered, barred, basis}
+use Rattle.model.specs.Rounds.{roundsOfPair, roundsOfPairs, rounds}
+use Rattle.model.specs.Answer.{notInside, add, tops, precedes, insert, sort, trueAt, answer, inRow, fourBytes, answerLine, refusalLine}
+use Rattle.model.specs.Reading.{begun, check, headerForm, opened, admitHeader, eventForm, extended, unasked, admitEvent, asked, admitQuestion, admit, finish, proceed, readItems, readLog}
+use Rattle.model.specs.Reply.{Reply, gives, refuses}
+use Rattle.model.specs.Operations.{readEffect, readOp, cramped, cutReply, holdsReplyTo, holdsOp, answerLines, printedOf, printed}
+
+-- The bytes of a text.
+pub ascii : String → List ℕ
+ascii text.[] = []
+ascii (text._∷_ c s) = code c ∷ ascii s
+
+-- The bench log up to its question.
+pub bench : List ℕ
+bench = ascii "100200000000EE\n200000050100DA\n200100010001DD\n200100020102DA\n"
+
+pub Q : Formula
+Q = and (inRange 0 5 5) (inRange 1 1 1)
+
+-- The bench log with the question f.
+pub asking : Formula → List ℕ
+asking f = bench ++ line (0x30 ∷ prefix f)
+
+-- The reply of Holds at a cut of the bench log with Q.
+pub holdsAt : Cut → Reply
+holdsAt c = holdsOp (asking Q) 0 c 65536 8192
+
+-- The twelve cases marked *.
+pub twelve :
+    (asking Q ≡ bench ++ ascii "3003010000050005010100010001BE\n")
+    × (printed (asking Q) ≡ ascii "400001010100000007B6\n")
+    × (printed (asking (possibly Q)) ≡ ascii "400101010100000007B5\n")
+    × (printed (asking (always (not Q))) ≡ ascii "400001010200000007B5\n")
+    × (printed (asking (inRange 0 5 5)) ≡ ascii "400001010200000000BC\n")
+    × (printed (asking (inRange 0 6 9)) ≡ ascii "40000000000000C0\n")
+    × (printed (asking (always (inRange 0 0 5))) ≡ ascii "400101010200000000BB\n")
+    × (printed (asking (or (and (inRange 0 5 5) (inRange 1 0 0)) (and (inRange 0 0 0) (inRange 1 1 1)))) ≡ ascii "400002000101000000000AB2\n")
+    × (printed (asking (or Q Q)) ≡ ascii "40000101010000000EAF\n")
+    × (printed (asking (and (inRange 0 6 9) Q)) ≡ ascii "40000000000007B9\n")
+    × (holdsAt (1 ∷ 1 ∷ []) ≡ gives (1 ∷ []))
+    × (holdsAt (1 ∷ 0 ∷ []) ≡ gives (0 ∷ []))
+    × (holdsAt (0 ∷ 2 ∷ []) ≡ refuses 13 0)
+unfolding ascii bench Q asking holdsAt sum between every push linesOf digit byte bytes carried items hexDigit hex checkByte line word words prefix ahead one two sign token spelt formulasIn single formulaOf sound weigh inside insideAny join clock value known isConsistent counted clockOk asTrue asFalse passes width bars slim narrow fits row joined raiseBy raise reaches inSet belongs belongsAny joinRow joinRows greatest keep buildOn build next upTo raiseAtom thenRight round onward after run start intersect each pairs below lowered barred basis roundsOfPair roundsOfPairs rounds notInside add tops precedes insert sort trueAt answer inRow fourBytes answerLine refusalLine begun check headerForm opened admitHeader eventForm extended unasked admitEvent asked admitQuestion admit finish proceed readItems readLog cramped cutReply holdsReplyTo holdsOp answerLines printedOf printed
+twelve = (refl, refl, refl, refl, refl, refl, refl, refl, refl, refl, refl, refl, refl)
+
+-- Ors of two and of three ways.
+pub two-ways : Formula
+two-ways = or (inRange 0 5 5) (inRange 0 5 5)
+
+pub three-ways : Formula
+three-ways = or (inRange 0 5 5) two-ways
+
+-- What else the rules for dropping, bars, rounds and width come to.
+pub more :
+    (printed bench ≡ [])
+    × (printed [] ≡ ascii "50040001AB\n")
+    × (printed (asking (and (inRange 0 0 0) (inRange 1 2 2))) ≡ ascii "40000000000006BA\n")
+    × (printed (asking (and (inRange 0 0 5) (always (not Q)))) ≡ ascii "40000101020000000BB1\n")
+    × (printed (asking (possibly (and (inRange 0 5 5) (inRange 1 0 0)))) ≡ ascii "400101010000000005B8\n")
+    × (readOp (asking (and (and two-ways two-ways) (and two-ways two-ways))) (replicate 4096 0) .reply ≡ gives (2 ∷ 3 ∷ 1 ∷ 85 ∷ []))
+    × (printed (asking (and (and three-ways three-ways) two-ways)) ≡ ascii "50090005A2\n")
+unfolding ascii bench Q asking two-ways three-ways listOf sum between every push linesOf digit byte bytes carried items hexDigit hex checkByte line word words prefix ahead one two sign token spelt formulasIn single formulaOf sound weigh inside insideAny join clock value known isConsistent counted clockOk asTrue asFalse passes width bars slim narrow fits row joined raiseBy raise reaches inSet belongs belongsAny joinRow joinRows greatest keep buildOn build next upTo raiseAtom thenRight round onward after run start intersect each pairs below lowered barred basis roundsOfPair roundsOfPairs rounds notInside add tops precedes insert sort trueAt answer inRow fourBytes answerLine refusalLine begun check headerForm opened admitHeader eventForm extended unasked admitEvent asked admitQuestion admit finish proceed readItems readLog readEffect readOp answerLines printedOf printed
+more = (refl, refl, refl, refl, refl, refl, refl)

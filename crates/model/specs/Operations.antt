@@ -1,0 +1,106 @@
+-- The four operations and the program: what each hands back and leaves in what is lent to it.
+use mathlib.Core.Path.{_≡_}
+use Prim.Native.Nat.{ℕ}
+use mathlib.Core.Bool.{Bool, cond, _||_}
+use mathlib.Core.List.{List, [], _∷_, _++_}
+use mathlib.Core.Option.{Option, none, some}
+use lib.ListN.{length, drop, getElem?}
+use lib.Dec.{ltb}
+use Rattle.model.specs.Limits.{limits}
+use Rattle.model.specs.Frames.{logOf, listOf}
+use Rattle.model.specs.Formula.{Formula}
+use Rattle.model.specs.Cut.{Cut}
+use Rattle.model.specs.Computation.{Computation, stations, eventCount, isConsistent}
+use Rattle.model.specs.Answer.{trueAt, answer, yesNo, answerLine, refusalLine}
+use Rattle.model.specs.Reading.{Reading, Result, refused, accepted, readLog, readList}
+use Rattle.model.specs.Reply.{Reply, gives, refuses}
+
+-- What is handed back, and the output afterwards.
+pub record Effect : Type 0 where
+  pub reply : Reply
+  pub output : List ℕ
+
+-- A refusal leaves the output as lent.
+abbrev pub refuse : ℕ → ℕ → List ℕ → Effect
+refuse k n out = record { reply = refuses k n; output = out }
+
+-- Values given, and bytes written; output bytes past those written stay as lent.
+abbrev pub write : List ℕ → List ℕ → List ℕ → Effect
+write values bytes out = record { reply = gives values; output = bytes ++ drop (length bytes) out }
+
+-- Any other lent slice: as lent after a refusal; else it may hold anything.
+abbrev pub Kept : Reply → List ℕ → List ℕ → Type 0
+Kept (gives values) before after = Unit {0}
+Kept (refuses k n) before after = after ≡ before
+
+-- READ
+
+unfoldable pub readEffect : Result → List ℕ → Effect
+readEffect (refused k n) out = refuse k n out
+readEffect (accepted r) out =
+    cond (ltb (length out) (limits .list)) (refuse 12 0 out)
+    (write (stations (r .computation) ∷ eventCount (r .computation) ∷ length (r .questions) ∷ length (listOf (r .frames)) ∷ []) (listOf (r .frames)) out)
+
+-- log, output
+unfoldable pub readOp : List ℕ → List ℕ → Effect
+readOp log out = readEffect (readLog limits log) out
+
+-- ANSWER
+
+-- The workspace or the bar space is too small.
+unfoldable pub cramped : ℕ → ℕ → Bool
+cramped ws bs = ltb ws 65536 || ltb bs 8192
+
+unfoldable pub lineEffect : List ℕ → List ℕ → Effect
+lineEffect l out = cond (ltb (length out) 273) (refuse 12 0 out) (write (length l ∷ []) l out)
+
+unfoldable pub questionEffect : Computation → Option Formula → ℕ → ℕ → List ℕ → Effect
+questionEffect K none ws bs out = refuse 10 0 out
+questionEffect K (some f) ws bs out = cond (cramped ws bs) (refuse 11 0 out) (lineEffect (answerLine (answer K f)) out)
+
+unfoldable pub answerEffect : Result → ℕ → ℕ → ℕ → List ℕ → Effect
+answerEffect (refused k n) q ws bs out = refuse k n out
+answerEffect (accepted r) q ws bs out = questionEffect (r .computation) (getElem? (r .questions) q) ws bs out
+
+-- log, question number, sizes of workspace and bar space, output
+unfoldable pub answerOp : List ℕ → ℕ → ℕ → ℕ → List ℕ → Effect
+answerOp log q ws bs out = answerEffect (readLog limits log) q ws bs out
+
+-- HOLDS
+
+unfoldable pub cutReply : Computation → Option Formula → Cut → ℕ → ℕ → Reply
+cutReply K none c ws bs = refuses 10 0
+cutReply K (some f) c ws bs = cond (isConsistent K c) (cond (cramped ws bs) (refuses 11 0) (gives (yesNo (trueAt K f c) ∷ []))) (refuses 13 0)
+
+unfoldable pub holdsReplyTo : Result → ℕ → Cut → ℕ → ℕ → Reply
+holdsReplyTo (refused k n) q c ws bs = refuses k n
+holdsReplyTo (accepted r) q c ws bs = cutReply (r .computation) (getElem? (r .questions) q) c ws bs
+
+-- log, question number, cut, sizes of workspace and bar space
+unfoldable pub holdsOp : List ℕ → ℕ → Cut → ℕ → ℕ → Reply
+holdsOp log q c ws bs = holdsReplyTo (readLog limits log) q c ws bs
+
+-- WRITE
+
+unfoldable pub writeEffect : Result → List ℕ → Effect
+writeEffect (refused k n) out = refuse k n out
+writeEffect (accepted r) out = cond (ltb (length out) (limits .bytes)) (refuse 12 0 out) (write (length (logOf (r .frames)) ∷ []) (logOf (r .frames)) out)
+
+-- frame list, output
+unfoldable pub writeOp : List ℕ → List ℕ → Effect
+writeOp list out = writeEffect (readList limits list) out
+
+-- THE PROGRAM
+
+-- One answer line a question.
+unfoldable pub answerLines : Computation → List Formula → List ℕ
+answerLines K [] = []
+answerLines K (f ∷ l) = answerLine (answer K f) ++ answerLines K l
+
+unfoldable pub printedOf : Result → List ℕ
+printedOf (refused k n) = refusalLine k n
+printedOf (accepted r) = answerLines (r .computation) (r .questions)
+
+-- What is printed for the standard input.
+unfoldable pub printed : List ℕ → List ℕ
+printed log = printedOf (readLog limits log)

@@ -1,0 +1,63 @@
+-- What is promised of answers: demands 2 and 3, by truth at cuts.
+use mathlib.Core.Path.{_≡_}
+use mathlib.Core.Logic.{_↔_}
+use Prim.Native.Nat.{ℕ, suc, _*_, _≤_}
+use mathlib.Core.Bool.{Bool, true}
+use mathlib.Core.List.{List, [], _∷_}
+use mathlib.Core.Option.{some}
+use lib.ListN.{getElem?}
+use Rattle.model.specs.Limits.{limits}
+use Rattle.model.specs.Lists.{Some, Member}
+use Rattle.model.specs.Formula.{Formula, signs}
+use Rattle.model.specs.Cut.{Cut, _⊑_, empty}
+use Rattle.model.specs.Computation.{Computation, Consistent, stations, eventCount}
+use Rattle.model.specs.Truth.{True}
+use Rattle.model.specs.Rules.{asTrue}
+use Rattle.model.specs.Rounds as rule
+use Rattle.model.specs.Answer.{precedes, answerLine}
+use Rattle.model.specs.Reading.{Reading, accepted, readLog}
+use Rattle.model.specs.Reply.{Reply, gives}
+
+-- The log is accepted, K is its computation, and f its question number q.
+pub record Asked (log : List ℕ) (q : ℕ) (K : Computation) (f : Formula) : Type 0 where
+  pub frames : List (List ℕ)
+  pub questions : List Formula
+  pub reads : readLog limits log ≡ accepted (record { computation = K; questions = questions; frames = frames })
+  pub is : getElem? questions q ≡ some f
+
+-- The formula is true at c, and at no other consistent cut that contains c.
+pub record Maximal (K : Computation) (f : Formula) (c : Cut) : Type 0 where
+  pub consistent : Consistent K c
+  pub is-true : True K f c
+  pub alone : (d : Cut) → Consistent K d → True K f d → c ⊑ d → d ≡ c
+
+-- Each cut stands before all that follow it.
+abbrev pub Ascending : List Cut → Type 0
+Ascending [] = Unit {0}
+Ascending (c ∷ l) = ((d : Cut) → Member d l → precedes c d ≡ true) × Ascending l
+
+-- DEMAND 3, of the line written for the question f
+pub record Answered (K : Computation) (f : Formula) (line : List ℕ) : Type 0 where
+  -- there are start, cuts and rounds of which the line is the encoding
+  pub start : Bool
+  pub cuts : List Cut
+  pub rounds : ℕ
+  pub encodes : line ≡ answerLine (record { start = start; cuts = cuts; rounds = rounds })
+  -- a cut is listed exactly when it is consistent, makes the question true and is contained in no other that does
+  pub listed : (c : Cut) → Member c cuts ↔ Maximal K f c
+  -- in ascending order, and so each once
+  pub ordered : Ascending cuts
+  -- every consistent cut that makes the question true is contained in one listed
+  pub covered : (c : Cut) → Consistent K c → True K f c → Some (λ d. c ⊑ d) cuts
+  -- the list is empty exactly when no consistent cut does
+  pub never : (cuts ≡ []) ↔ ((c : Cut) → Consistent K c → True K f c → ⊥)
+  -- the start is yes exactly when the question is true at the empty cut
+  pub first : (start ≡ true) ↔ True K f (empty (stations K))
+  -- the rounds are those of the rule, and have their bound
+  pub counted : rounds ≡ rule.rounds K (asTrue f)
+  pub bounded : rounds ≤ 16 * signs f * (suc (eventCount K) * suc (eventCount K))
+
+-- DEMAND 2, of the reply to a consistent cut
+pub record Tested (K : Computation) (f : Formula) (c : Cut) (reply : Reply) : Type 0 where
+  pub when-true : (reply ≡ gives (1 ∷ [])) ↔ True K f c
+  pub when-false : (reply ≡ gives (0 ∷ [])) ↔ (True K f c → ⊥)

@@ -1,0 +1,132 @@
+-- Reading frame by frame: the first fault, or all that was read.
+use Prim.Native.Nat.{ℕ, suc, _+_, _*_}
+use mathlib.Core.Bool.{Bool, true, false, cond, not, _&&_}
+use mathlib.Core.List.{List, [], _∷_, _++_, map}
+use mathlib.Core.Option.{Option, none, some}
+use lib.ListN.{length, drop, getD, set}
+use lib.Dec.{leb, ltb, eqb}
+use Rattle.model.specs.declared.Limits.{Limits}
+use Rattle.model.specs.Lists.{between}
+use Rattle.model.specs.Bytes.{linesOf, Item, frame, bad, items}
+use Rattle.model.specs.Frames.{word, words, framesOf}
+use Rattle.model.specs.Formula.{Formula, formulaOf, sound}
+use Rattle.model.specs.Cut.{Cut}
+use Rattle.model.specs.Computation.{Event, Computation, stations, history, eventCount, clockOk}
+use Rattle.model.specs.Size.{fits}
+
+-- What has been read: the computation, with no stations before the header; the questions; the frames.
+pub record Reading : Type 0 where
+  pub computation : Computation
+  pub questions : List Formula
+  pub frames : List (List ℕ)
+
+abbrev pub nothing : Reading
+nothing = record { computation = record { initial = []; events = [] }; questions = []; frames = [] }
+
+-- Has a header been read?
+unfoldable pub begun : Reading → Bool
+begun r = ltb 0 (stations (r .computation))
+
+-- A frame's step: what has been read after it, or the number of its fault.
+pub data Step : Type 0 where
+  go : Reading → Step
+  fault : ℕ → Step
+
+-- The step, if the test is passed.
+unfoldable pub check : ℕ → Bool → Step → Step
+check k true s = s
+check k false s = fault k
+
+-- HEADER: station count n, then n initial values of two bytes
+
+unfoldable pub headerForm : Limits → List ℕ → Bool
+headerForm m f = leb 1 (length f) && between 1 (m .stations) (getD f 0 0) && eqb (length f) (1 + 2 * getD f 0 0)
+
+-- The stations with their initial values, and no events.
+unfoldable pub opened : List ℕ → Computation
+opened values = record { initial = values; events = map (λ (v : ℕ). []) values }
+
+unfoldable pub admitHeader : Limits → Reading → List ℕ → Step
+admitHeader m r f =
+    check 4 (not (begun r))
+    (check 5 (headerForm m f)
+    (go (record { computation = opened (words (drop 1 f)); questions = r .questions; frames = r .frames ++ ((0x10 ∷ f) ∷ []) })))
+
+-- EVENT: station s, its new value (two bytes), n clock bytes
+
+abbrev pub stationOf : List ℕ → ℕ
+stationOf f = getD f 0 0
+
+abbrev pub eventOf : List ℕ → Event
+eventOf f = record { value = word (drop 1 f); clock = drop 3 f }
+
+unfoldable pub eventForm : ℕ → List ℕ → Bool
+eventForm n f = eqb (length f) (n + 3) && ltb (stationOf f) n
+
+-- The computation with one more event of station s.
+unfoldable pub extended : Computation → ℕ → Event → Computation
+extended K s e = record { initial = K .initial; events = set (K .events) s (history K s ++ (e ∷ [])) }
+
+-- No question has been asked yet.
+unfoldable pub unasked : Reading → Bool
+unasked r = eqb (length (r .questions)) 0
+
+unfoldable pub admitEvent : Limits → Reading → List ℕ → Step
+admitEvent m r f =
+    check 4 (begun r && unasked r && ltb (eventCount (r .computation)) (m .events))
+    (check 6 (eventForm (stations (r .computation)) f)
+    (check 7 (clockOk (r .computation) (stationOf f) (eventOf f .clock))
+    (go (record { computation = extended (r .computation) (stationOf f) (eventOf f); questions = r .questions; frames = r .frames ++ ((0x20 ∷ f) ∷ []) }))))
+
+-- QUESTION: one formula in prefix form
+
+unfoldable pub asked : Reading → List ℕ → Option Formula → Step
+asked r f none = fault 8
+asked r f (some φ) =
+    check 8 (sound (stations (r .computation)) φ)
+    (check 9 (fits φ)
+    (go (record { computation = r .computation; questions = r .questions ++ (φ ∷ []); frames = r .frames ++ ((0x30 ∷ f) ∷ []) })))
+
+unfoldable pub admitQuestion : Limits → Reading → List ℕ → Step
+admitQuestion m r f = check 4 (begun r && ltb (length (r .questions)) (m .questions)) (asked r f (formulaOf f))
+
+-- The kind decides.
+unfoldable pub admit : Limits → Reading → List ℕ → Step
+admit m r [] = fault 4
+admit m r (kind ∷ f) =
+    cond (eqb kind 0x10) (admitHeader m r f)
+    (cond (eqb kind 0x20) (admitEvent m r f)
+    (cond (eqb kind 0x30) (admitQuestion m r f) (fault 4)))
+
+-- ALL FRAMES
+
+-- What reading comes to: a fault's number and line, or all that was read.
+pub data Result : Type 0 where
+  refused : ℕ → ℕ → Result
+  accepted : Reading → Result
+
+-- At the end: nothing read is an empty log.
+unfoldable pub finish : Reading → Result
+finish r = cond (begun r) (accepted r) (refused 4 1)
+
+unfoldable pub proceed : (Reading → Result) → ℕ → Step → Result
+proceed on n (go r) = on r
+proceed on n (fault k) = refused k n
+
+-- The items from line n on.
+unfoldable pub readItems : Limits → ℕ → Reading → List Item → Result
+readItems m n r [] = finish r
+readItems m n r (bad k ∷ l) = refused k n
+readItems m n r (frame f ∷ l) = proceed (λ s. readItems m (suc n) s l) n (admit m r f)
+
+-- A log.
+unfoldable pub readLog : Limits → List ℕ → Result
+readLog m log = cond (leb (length log) (m .bytes)) (readItems m 1 nothing (items (linesOf log))) (refused 1 0)
+
+-- A frame list: its frames are read as the lines of a log are.
+unfoldable pub readFrames : Limits → Option (List (List ℕ)) → Result
+readFrames m none = refused 14 0
+readFrames m (some fs) = readItems m 1 nothing (map frame fs)
+
+unfoldable pub readList : Limits → List ℕ → Result
+readList m l = cond (leb (length l) (m .list)) (readFrames m (framesOf l)) (refused 14 0)

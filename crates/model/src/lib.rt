@@ -1,0 +1,102 @@
+// A log's limits, and the answers that the operations hand back.
+ghost use mathlib.Core.Path.{_≡_};
+ghost use lib.ListN.{replicate};
+ghost use Rattle.model.specs.Limits.{limits};
+
+// The limits of a log, as one value.
+pub struct Limits {
+    pub stations: usize,
+    pub events: usize,
+    pub questions: usize,
+    pub bytes: usize,
+    pub list: usize,
+}
+
+// An accepted log: its counts, and the length of its frame list.
+pub struct Log {
+    pub stations: usize,
+    pub events: usize,
+    pub questions: usize,
+    pub list: usize,
+}
+
+impl Log {
+    pub const STATIONS: usize = 8;
+
+    pub const EVENTS: usize = 127;
+
+    pub const QUESTIONS: usize = 16;
+
+    pub const BYTES: usize = 8192;
+
+    pub const LIST: usize = 4096;
+
+    // The limits of the definitions are those of the type.
+    pub fn limits() -> Limits
+        ensures { λ r. ⌜ r ≡ limits ⌝ }
+    {
+        Limits {
+            stations: Log::STATIONS,
+            events: Log::EVENTS,
+            questions: Log::QUESTIONS,
+            bytes: Log::BYTES,
+            list: Log::LIST,
+        }
+    }
+
+    // The cut that holds no event.
+    pub fn empty_cut() -> [u8; 8]
+        ensures { λ r. ⌜ r ≡ replicate (limits .stations) 0 ⌝ }
+    {
+        [0u8; Log::STATIONS]
+    }
+}
+
+// What can be wrong; `number` of specs/Reply.antt gives each its number.
+pub enum Fault {
+    LongLog,
+    LineForm,
+    CheckByte,
+    Kind,
+    Header,
+    Event,
+    Clock,
+    Formula,
+    Size,
+    NoQuestion,
+    Workspace,
+    Output,
+    Cut,
+    FrameList,
+}
+
+// A fault, and the line where it stands, or 0.
+pub struct Refusal {
+    pub fault: Fault,
+    pub line: usize,
+}
+
+// What Read hands back.
+pub enum ReadAnswer {
+    Accepted(Log),
+    Refused(Refusal),
+}
+
+// What Write hands back: the log's length.
+pub enum WriteAnswer {
+    Written(usize),
+    Refused(Refusal),
+}
+
+// What Answer hands back: the line's length.
+pub enum LineAnswer {
+    Written(usize),
+    Refused(Refusal),
+}
+
+// What Holds hands back.
+pub enum HoldsAnswer {
+    Yes,
+    No,
+    Refused(Refusal),
+}
