@@ -5,7 +5,7 @@ use Prim.Native.Char.{code}
 use Prim.Native.String as text
 use Prim.Native.String.{String}
 use mathlib.Core.List.{List, [], _∷_, _++_}
-use lib.ListN.{length, replicate}
+use lib.ListN.{replicate}
 use Rattle.model.specs.Lists.{sum, between, every}
 use Rattle.model.specs.Bytes.{push, linesOf, digit, byte, bytes, carried, items, hexDigit, hex, checkByte, line}
 use Rattle.model.specs.Frames.{word, words, listOf}

@@ -1,5 +1,5 @@
 -- Possibly and always take in the cut itself.
-use Prim.Native.Nat.{ℕ}
+
 use native.Mathlib.Nat.{le-refl}
 use Rattle.model.specs.Formula.{Formula}
 use Rattle.model.specs.Formula.Formula.{not, possibly, always}

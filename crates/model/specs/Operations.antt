@@ -12,7 +12,7 @@ use Rattle.model.specs.Formula.{Formula}
 use Rattle.model.specs.Cut.{Cut}
 use Rattle.model.specs.Computation.{Computation, stations, eventCount, isConsistent}
 use Rattle.model.specs.Answer.{trueAt, answer, yesNo, answerLine, refusalLine}
-use Rattle.model.specs.Reading.{Reading, Result, refused, accepted, readLog, readList}
+use Rattle.model.specs.Reading.{Result, refused, accepted, readLog, readList}
 use Rattle.model.specs.Reply.{Reply, gives, refuses}
 
 -- What is handed back, and the output afterwards.

@@ -15,7 +15,7 @@ use Rattle.model.specs.Truth.{True}
 use Rattle.model.specs.Rules.{asTrue}
 use Rattle.model.specs.Rounds as rule
 use Rattle.model.specs.Answer.{precedes, answerLine}
-use Rattle.model.specs.Reading.{Reading, accepted, readLog}
+use Rattle.model.specs.Reading.{accepted, readLog}
 use Rattle.model.specs.Reply.{Reply, gives}
 
 -- The log is accepted, K is its computation, and f its question number q.

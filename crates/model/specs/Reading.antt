@@ -10,7 +10,6 @@ use Rattle.model.specs.Lists.{between}
 use Rattle.model.specs.Bytes.{linesOf, Item, frame, bad, items}
 use Rattle.model.specs.Frames.{word, words, framesOf}
 use Rattle.model.specs.Formula.{Formula, formulaOf, sound}
-use Rattle.model.specs.Cut.{Cut}
 use Rattle.model.specs.Computation.{Event, Computation, stations, history, eventCount, clockOk}
 use Rattle.model.specs.Size.{fits}
 
