@@ -1,0 +1,54 @@
+-- All that is promised of the reply to a cut and of the line of a question: demands 2 and 3.
+use mathlib.Core.Path.{_≡_, refl}
+use mathlib.Core.Logic.{_↔_}
+use Prim.Native.Nat.{ℕ}
+use native.Mathlib.Omega.{arith}
+use mathlib.Core.Bool.{Bool, true, false}
+use mathlib.Core.List.{[], _∷_}
+use Rattle.model.specs.Formula.{Formula}
+use Rattle.model.specs.Cut.{Cut, empty}
+use Rattle.model.specs.Computation.{Computation, Consistent, stations}
+use Rattle.model.specs.Rules.{asTrue}
+use Rattle.model.specs.Size.{narrow}
+use Rattle.model.specs.Rounds.{rounds}
+use Rattle.model.specs.Answer.{trueAt, answer, yesNo, answerLine}
+use Rattle.model.specs.Reply.{Reply, gives}
+use Rattle.model.specs.Promise.{Answered, Tested}
+use Rattle.lattice.proofs.Valid.{Valid}
+use Rattle.lattice.proofs.Tests.{clash}
+use Rattle.lattice.proofs.Consistency.{empty-consistent}
+use Rattle.lattice.proofs.Theorem.{tested, untested}
+use Rattle.lattice.proofs.Maximal.{maximal, listed-iff, listed-ascending, true-below, never-iff}
+use Rattle.lattice.proofs.Rounds.{rounds-bound}
+
+said-yes : (b : Bool) → (_≡_ {A = Reply} (gives (yesNo b ∷ [])) (gives (1 ∷ []))) ↔ (b ≡ true)
+said-yes true = (λ h. refl, λ h. refl)
+said-yes false = (λ h. let z : _≡_ {A = ℕ} 0 1 = cc in absurd (omega arith), λ h. clash h refl)
+
+said-no : (b : Bool) → (_≡_ {A = Reply} (gives (yesNo b ∷ [])) (gives (0 ∷ []))) ↔ (b ≡ false)
+said-no true = (λ h. let z : _≡_ {A = ℕ} 0 1 = cc in absurd (omega arith), λ h. clash refl h)
+said-no false = (λ h. refl, λ h. refl)
+
+-- Demand 2.
+pub told : (K : Computation) → Valid K → (f : Formula) (c : Cut) → Consistent K c → Tested K f c (gives (yesNo (trueAt K f c) ∷ []))
+told K ok f c p = record {
+  when-true = (λ h. tested K ok f c p .0 (said-yes (trueAt K f c) .0 h), λ t. said-yes (trueAt K f c) .1 (tested K ok f c p .1 t));
+  when-false = (λ h. untested K ok f c p .0 (said-no (trueAt K f c) .0 h), λ n. said-no (trueAt K f c) .1 (untested K ok f c p .1 n));
+}
+
+-- Demand 3.
+pub answered : (K : Computation) → Valid K → (f : Formula) → narrow (asTrue f) ≡ true → Answered K f (answerLine (answer K f))
+unfolding answer
+answered K ok f h = record {
+  start = trueAt K f (empty (stations K));
+  cuts = maximal K f;
+  rounds = rounds K (asTrue f);
+  encodes = refl;
+  listed = listed-iff K ok f;
+  ordered = listed-ascending K ok f;
+  covered = true-below K ok f;
+  never = never-iff K ok f;
+  first = tested K ok f (empty (stations K)) (empty-consistent K ok);
+  counted = refl;
+  bounded = rounds-bound K f h;
+}

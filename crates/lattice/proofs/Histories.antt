@@ -1,0 +1,146 @@
+-- What a computation comes to by one more event: one history is longer by it, and all that was there stands where it stood.
+use mathlib.Core.Path.{_≡_, refl, ap, _∙_}
+use mathlib.Core.Logic.{_≢_, _⊎_, inl, inr}
+use Prim.Native.Nat.{ℕ, zero, suc, _≤_, _<_}
+use native.Mathlib.Decide.{ℕ-discrete, decLe}
+use native.Mathlib.Numerals.{add-one}
+use native.Mathlib.Omega.{arith}
+use mathlib.Core.List.{List, [], _∷_, _++_, map}
+use lib.ListN.{length, getD, set, length-append, length-set, length-map, List·getD-append, List·getD-eq-default}
+use lib.Seq.{getD-set-same, getD-set-other, getD-append-seam}
+use Rattle.model.specs.Lists.{sum, total}
+use Rattle.model.specs.Computation.{Event, Computation, stations, history, count, eventCount, noEvent, clock, value}
+use Rattle.model.specs.Reading.{opened, extended}
+
+-- ANY COMPUTATION
+
+-- Past a station's last event the clock is given as empty.
+pub clock-none : (K : Computation) (j k : ℕ) → count K j < k → clock K j k ≡ []
+unfolding clock
+clock-none K j zero h = absurd (omega arith)
+clock-none K j (suc k) h = ap (λ (e : Event). e .clock) (List·getD-eq-default (history K j) noEvent (omega arith))
+
+-- And its value as 0.
+pub value-none : (K : Computation) (j k : ℕ) → count K j < k → value K j k ≡ 0
+unfolding value
+value-none K j zero h = absurd (omega arith)
+value-none K j (suc k) h = ap (λ (e : Event). e .value) (List·getD-eq-default (history K j) noEvent (omega arith))
+
+-- AFTER THE HEADER
+
+module _ (values : List ℕ) where
+  pub stations-opened : stations (opened values) ≡ length values
+  unfolding opened
+  stations-opened = refl
+
+  pub length-opened : length (opened values .events) ≡ length values
+  unfolding opened
+  length-opened = length-map values (λ (v : ℕ). [])
+
+  pub count-opened : (j : ℕ) → count (opened values) j ≡ 0
+  unfolding opened
+  count-opened j = none values j
+    where
+      none : (l : List ℕ) (j : ℕ) → length (getD (map {B = List Event} (λ (v : ℕ). []) l) j []) ≡ 0
+      none [] j = refl
+      none (v ∷ l) zero = refl
+      none (v ∷ l) (suc j) = none l j
+
+  pub value-opened : (j : ℕ) → value (opened values) j 0 ≡ getD values j 0
+  unfolding opened value
+  value-opened j = refl
+
+  pub eventCount-opened : eventCount (opened values) ≡ 0
+  unfolding opened sum
+  eventCount-opened = none values
+    where
+      none : (l : List ℕ) → total (map length (map {B = List Event} (λ (v : ℕ). []) l)) ≡ 0
+      none [] = refl
+      none (v ∷ l) = omega (arith, none l)
+
+-- ONE MORE EVENT
+
+-- One history longer by one.
+total-longer : (l : List (List Event)) (s : ℕ) (e : Event) → s < length l → total (map length (set l s (getD l s [] ++ (e ∷ [])))) ≡ suc (total (map length l))
+unfolding sum
+total-longer [] s e h = absurd (omega arith)
+total-longer (x ∷ l) zero e h = omega (arith, length-append x (e ∷ []))
+total-longer (x ∷ l) (suc s) e h = omega (arith, total-longer l s e (omega arith))
+
+module _ (K : Computation) (s : ℕ) (e : Event) where
+  pub stations-extended : stations (extended K s e) ≡ stations K
+  unfolding extended
+  stations-extended = refl
+
+  pub length-extended : length (extended K s e .events) ≡ length (K .events)
+  unfolding extended
+  length-extended = length-set (K .events) s (history K s ++ (e ∷ []))
+
+  pub history-other : (j : ℕ) → j ≢ s → history (extended K s e) j ≡ history K j
+  unfolding extended
+  history-other j d = getD-set-other (K .events) s j (history K s ++ (e ∷ [])) [] d
+
+  pub count-other : (j : ℕ) → j ≢ s → count (extended K s e) j ≡ count K j
+  count-other j d = ap length (history-other j d)
+
+module _ (K : Computation) (s : ℕ) (e : Event) (there : s < length (K .events)) where
+  pub eventCount-extended : eventCount (extended K s e) ≡ suc (eventCount K)
+  unfolding extended
+  eventCount-extended = total-longer (K .events) s e there
+
+  pub history-same : history (extended K s e) s ≡ history K s ++ (e ∷ [])
+  unfolding extended
+  history-same = getD-set-same (K .events) s (history K s ++ (e ∷ [])) [] there
+
+  pub count-same : count (extended K s e) s ≡ suc (count K s)
+  count-same = ap length history-same ∙ length-append (history K s) (e ∷ []) ∙ add-one (count K s)
+
+  -- No count falls.
+  pub count-grows : (j : ℕ) → count K j ≤ count (extended K s e) j
+  count-grows j =
+      elim (ℕ-discrete j s) [
+        | yes p ↦ rw p (omega (arith, count-same))
+        | no d ↦ omega (arith, count-other K s e j d)
+      ]
+
+  -- An event is an old one or the new one.
+  pub old-or-new : (j k : ℕ) → k ≤ count (extended K s e) j → (k ≤ count K j) ⊎ ((j ≡ s) × (k ≡ suc (count K s)))
+  old-or-new j k h =
+      elim (decLe k (count K j)) [
+        | yes l ↦ inl l
+        | no l ↦ elim (ℕ-discrete j s) [
+          | yes p ↦ inr (p, is p l)
+          | no d ↦ inl (omega (arith, count-other K s e j d))
+        ]
+      ]
+    where
+      is : j ≡ s → (k ≤ count K j → ⊥) → k ≡ suc (count K s)
+      is p l = omega (arith, count-same, ap (count K) p, ap (count (extended K s e)) p)
+
+  event-old : (j k : ℕ) → k < count K j → getD (history (extended K s e) j) k noEvent ≡ getD (history K j) k noEvent
+  event-old j k h =
+      elim (ℕ-discrete j s) [
+        | yes p ↦ rw (p, history-same) (List·getD-append (history K s) (e ∷ []) noEvent k (rw p at h))
+        | no d ↦ rw (history-other K s e j d)
+      ]
+
+  event-new : getD (history (extended K s e) s) (count K s) noEvent ≡ e
+  event-new = rw history-same (getD-append-seam (history K s) e [] noEvent)
+
+  pub clock-old : (j k : ℕ) → k ≤ count K j → clock (extended K s e) j k ≡ clock K j k
+  unfolding clock extended
+  clock-old j zero h = refl
+  clock-old j (suc k) h = ap (λ (x : Event). x .clock) (event-old j k h)
+
+  pub clock-new : clock (extended K s e) s (suc (count K s)) ≡ e .clock
+  unfolding clock
+  clock-new = ap (λ (x : Event). x .clock) event-new
+
+  pub value-old : (j k : ℕ) → k ≤ count K j → value (extended K s e) j k ≡ value K j k
+  unfolding value extended
+  value-old j zero h = refl
+  value-old j (suc k) h = ap (λ (x : Event). x .value) (event-old j k h)
+
+  pub value-new : value (extended K s e) s (suc (count K s)) ≡ e .value
+  unfolding value
+  value-new = ap (λ (x : Event). x .value) event-new

@@ -1,0 +1,86 @@
+-- The bound on the rounds: a pair takes at most (events + 1) rounds from each of events + 1 starts, and a sign has at most 16 pairs.
+use mathlib.Core.Path.{_≡_}
+use Prim.Native.Nat.{ℕ, suc, _+_, _*_, _≤_, _<_, _^_}
+use native.Mathlib.Omega.{arith}
+use native.Mathlib.Nat.{le-trans, mul-le-mul, mul-le-mul-right}
+use mathlib.Core.Bool.{true}
+use mathlib.Core.List.{List, [], _∷_, map}
+use lib.ListN.{length}
+use Rattle.model.specs.Lists.{sum, total}
+use Rattle.model.specs.Formula.{Formula, signs}
+use Rattle.model.specs.Cut.{Cut, empty}
+use Rattle.model.specs.Computation.{Computation, Event, stations, eventCount}
+use Rattle.model.specs.Rules.{Normal, asTrue}
+use Rattle.model.specs.Rules.Normal.{atom, both, either, possible, impossible}
+use Rattle.model.specs.Size.{width, narrow}
+use Rattle.model.specs.Structure.{Structure}
+use Rattle.model.specs.Basis.{start, basis}
+use Rattle.model.specs.Rounds.{roundsOfPair, roundsOfPairs, rounds}
+use Rattle.lattice.proofs.Intersection.{rounds-le}
+use Rattle.lattice.proofs.Size.{basis-width, narrow-both, narrow-either, narrow-possible, narrow-impossible}
+use Rattle.lattice.proofs.Weights.{signsOf, weighed, weight-true}
+
+-- SUMS
+
+sum-le : {A : Type 0} (f : A → ℕ) (n : ℕ) → ((x : A) → f x ≤ n) → (l : List A) → sum f l ≤ length l * n
+unfolding sum
+sum-le f n h [] = omega arith
+sum-le f n h (x ∷ l) = omega (arith, h x, sum-le f n h l)
+
+sum-sum-le : {A : Type 0} (f : A → ℕ) (n : ℕ) → ((x : A) → f x ≤ n) → (ls : List (List A)) → sum (sum f) ls ≤ total (map length ls) * n
+unfolding sum
+sum-sum-le f n h [] = omega arith
+sum-sum-le f n h (l ∷ ls) = omega (arith, sum-le f n h l, sum-sum-le f n h ls)
+
+-- PAIRS
+
+-- The starts of a pair times the rounds of a start.
+abbrev pub square : Computation → ℕ
+square K = suc (eventCount K) * suc (eventCount K)
+
+-- A start takes at most events + 1 rounds.
+pub start-le : (K : Computation) (S T : Structure) (c : Cut) → (start K S T c) .rounds ≤ suc (eventCount K)
+unfolding start
+start-le K S T c = rounds-le S T (suc (eventCount K)) c
+
+-- A pair takes at most the square.
+pub pair-le : (K : Computation) (S T : Structure) → roundsOfPair K S T ≤ square K
+unfolding roundsOfPair
+pair-le K S T =
+    omega (arith, start-le K S T (empty (stations K)), sum-sum-le (λ (e : Event). (start K S T (e .clock)) .rounds) (suc (eventCount K)) (λ e. start-le K S T (e .clock)) (K .events))
+
+-- The pairs of two lists.
+pub pairs-le : (K : Computation) (L R : List Structure) → roundsOfPairs K L R ≤ length L * (length R * square K)
+unfolding roundsOfPairs
+pairs-le K L R = sum-le (λ S. sum (roundsOfPair K S) R) (length R * square K) (λ S. sum-le (roundsOfPair K S) (square K) (pair-le K S) R) L
+
+-- Pairs of two bases whose widths multiply to at most 16.
+pub sixteen : (K : Computation) (L R : List Structure) (v w : ℕ) → length L ≤ v → length R ≤ w → v * w ≤ 16 → roundsOfPairs K L R ≤ 16 * square K
+sixteen K L R v w a b h = omega (arith, pairs-le K L R, mul-le-mul-right (square K) (le-trans (mul-le-mul a b) h))
+
+-- FORMULAS
+
+-- Of a narrow normal form, by its signs.
+pub rounds-normal : (K : Computation) (p : Normal) → narrow p ≡ true → rounds K p ≤ 16 * signsOf p * square K
+unfolding rounds weighed
+rounds-normal K (atom b s lo hi) h = omega arith
+rounds-normal K (both p q) h = let n = narrow-both p q h in
+    omega (arith, rounds-normal K p (n .2), rounds-normal K q (n .3), sixteen K (basis K p) (basis K q) (width p) (width q) (basis-width K p) (basis-width K q) (n .0))
+rounds-normal K (either p q) h = let n = narrow-either p q h in omega (arith, rounds-normal K p (n .2), rounds-normal K q (n .3))
+rounds-normal K (possible p) h = rounds-normal K p (narrow-possible p h .1)
+rounds-normal K (impossible p) h = rounds-normal K p (narrow-impossible p h .1)
+
+-- They fit four bytes.
+pub normal-fit : (K : Computation) (p : Normal) → narrow p ≡ true → signsOf p ≤ 31 → eventCount K ≤ 127 → rounds K p < 2 ^ 32
+normal-fit K p h s e =
+    let a : square K ≤ 128 * 128 = mul-le-mul {n₁ = suc (eventCount K)} {m₁ = suc (eventCount K)} {n₂ = 128} {m₂ = 128} (omega arith) (omega arith) in
+    let b : 16 * signsOf p * square K ≤ 496 * 16384 = mul-le-mul {n₁ = 16 * signsOf p} {m₁ = square K} {n₂ = 496} {m₂ = 16384} (omega arith) a in
+    omega (arith, rounds-normal K p h, b)
+
+-- Of a narrow question, by its and- and or-signs.
+pub rounds-bound : (K : Computation) (f : Formula) → narrow (asTrue f) ≡ true → rounds K (asTrue f) ≤ 16 * signs f * square K
+rounds-bound K f h = rw (weight-true 0 1 f) at (rounds-normal K (asTrue f) h)
+
+-- They fit four bytes too.
+pub rounds-fit : (K : Computation) (f : Formula) → narrow (asTrue f) ≡ true → signs f ≤ 31 → eventCount K ≤ 127 → rounds K (asTrue f) < 2 ^ 32
+rounds-fit K f h s e = normal-fit K (asTrue f) h (rw (weight-true 0 1 f) s) e
