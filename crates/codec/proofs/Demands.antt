@@ -1,0 +1,79 @@
+-- What is asked of an accepted log is answered as promised: demands 2 and 3, of the definitions and of the operations over them.
+use mathlib.Core.Path.{_≡_, refl}
+use Prim.Native.Nat.{ℕ, _≤_}
+use native.Mathlib.Omega.{arith}
+use mathlib.Core.Bool.{true}
+use mathlib.Core.List.{List, [], _∷_}
+use lib.ListN.{length, take, drop}
+use lib.Seq.{take-at}
+use borrow.Author.Tests.{le-ltb}
+use Rattle.model.specs.Formula.{Formula}
+use Rattle.model.specs.Cut.{Cut}
+use Rattle.model.specs.Computation.{Computation, Consistent, stations}
+use Rattle.model.specs.Rules.{asTrue}
+use Rattle.model.specs.Size.{narrow}
+use Rattle.model.specs.Answer.{trueAt, answer, yesNo, answerLine}
+use Rattle.model.specs.Reply.{gives}
+use Rattle.model.specs.Promise.{Asked, Answered, Tested}
+use Rattle.model.specs.Operations.{write, cramped, lineEffect, questionEffect, answerEffect, answerOp, cutReply, holdsReplyTo, holdsOp}
+use Rattle.lattice.proofs.Lists.{all-members}
+use Rattle.lattice.proofs.Consistency.{consistent-iff}
+use Rattle.lattice.proofs.Held.{fits-to, fits-signs}
+use Rattle.lattice.proofs.Line.{listed-few, listed-size, listed-byte, answer-rounds, answer-fits}
+use Rattle.lattice.proofs.Answers.{answered, told}
+use Rattle.codec.proofs.Answers.{Shown}
+use Rattle.codec.proofs.Readings.{Posed, asked-valid}
+
+module _ {log : List ℕ} {q : ℕ} {K : Computation} {f : Formula} (a : Asked log q K f) where
+  posed : Posed K f
+  posed = asked-valid a
+
+  slender : narrow (asTrue f) ≡ true
+  slender = fits-to f (posed .fitting) .2
+
+  -- THE ANSWER
+
+  -- Demand 3, of the answer's line.
+  pub asked-answered : Answered K f (answerLine (answer K f))
+  asked-answered = answered K (posed .valid) f slender
+
+  pub asked-line-fits : length (answerLine (answer K f)) ≤ 273
+  asked-line-fits = answer-fits K (posed .valid) f slender (posed .high)
+
+  -- Its numbers fit their bytes, so that the line tells the answer.
+  pub asked-shown : Shown (stations K) (answer K f)
+  asked-shown =
+      let few : length ((answer K f) .cuts) ≤ 16 = listed-few K f slender in
+      record {
+        sized = all-members ((answer K f) .cuts) (listed-size K (posed .valid) f);
+        counts = all-members ((answer K f) .cuts) (λ c m j. omega (arith, listed-byte K (posed .valid) f (posed .few) c m j));
+        few = omega arith;
+        short = answer-rounds K f slender (fits-signs f (posed .fitting)) (posed .few);
+      }
+
+  -- Demand 2, of the test at a cut.
+  pub asked-tested : (c : Cut) → Consistent K c → Tested K f c (gives (yesNo (trueAt K f c) ∷ []))
+  asked-tested c p = told K (posed .valid) f c p
+
+  -- THE OPERATIONS, with room enough
+
+  module _ (ws bs : ℕ) (hw : 65536 ≤ ws) (hb : 8192 ≤ bs) where
+    -- Answer writes the answer's line and gives its length.
+    pub asked-written : (out : List ℕ) → 273 ≤ length out → answerOp log q ws bs out ≡ write (length (answerLine (answer K f)) ∷ []) (answerLine (answer K f)) out
+    unfolding answerOp answerEffect questionEffect lineEffect cramped
+    asked-written out h = rw (a .reads, a .is, le-ltb ws 65536 hw, le-ltb bs 8192 hb, le-ltb (length out) 273 h)
+
+    -- So demand 3 holds of what stands at the front of the output.
+    pub asked-output : (out : List ℕ) → 273 ≤ length out → Answered K f (take (length (answerLine (answer K f))) (answerOp log q ws bs out .output))
+    asked-output out h =
+        let l = answerLine (answer K f) in
+        rw (asked-written out h, take-at l (drop (length l) out) (length l) refl) asked-answered
+
+    -- Holds replies what the test at a consistent cut comes to.
+    pub asked-replied : (c : Cut) → Consistent K c → holdsOp log q c ws bs ≡ gives (yesNo (trueAt K f c) ∷ [])
+    unfolding holdsOp holdsReplyTo cutReply cramped
+    asked-replied c p = rw (a .reads, a .is, consistent-iff K c .1 p, le-ltb ws 65536 hw, le-ltb bs 8192 hb)
+
+    -- So demand 2 holds of the reply.
+    pub asked-holds : (c : Cut) → Consistent K c → Tested K f c (holdsOp log q c ws bs)
+    asked-holds c p = rw (asked-replied c p) (asked-tested c p)

@@ -1,0 +1,17 @@
+pub mod Bytes
+pub mod Cases
+pub mod Snoc
+pub mod Formulas
+pub mod Frames
+pub mod Hex
+pub mod Lines
+pub mod Logs
+pub mod Answers
+pub mod Accepted
+pub mod QuestionFrames
+pub mod Lawful
+pub mod Readings
+pub mod Sizes
+pub mod RoundTrip
+pub mod Operations
+pub mod Demands

@@ -1,0 +1,123 @@
+-- What holds of every accepted log and frame list, and of what is asked there.
+use mathlib.Core.Path.{_≡_, sym}
+use Prim.Native.Nat.{ℕ, suc, _+_, _≤_, _<_}
+use native.Mathlib.Omega.{arith}
+use mathlib.Core.Bool.{true}
+use mathlib.Core.List.{List, [], _∷_, map}
+use mathlib.Core.Option.{some}
+use lib.ListN.{length, getD}
+use Rattle.model.specs.declared.Limits.{Limits}
+use Rattle.model.specs.Limits.{limits}
+use Rattle.model.specs.Lists.{Member}
+use Rattle.model.specs.Bytes.{Item, frame, linesOf, items}
+use Rattle.model.specs.Frames.{framesOf}
+use Rattle.model.specs.Formula.{Formula, sound}
+use Rattle.model.specs.Cut.{_!_}
+use Rattle.model.specs.Computation.{Computation, stations, eventCount, clock, value}
+use Rattle.model.specs.Size.{fits}
+use Rattle.model.specs.Reading.{Reading, nothing, accepted, readItems, readLog, readList}
+use Rattle.model.specs.Promise.{Asked}
+use Rattle.lattice.proofs.Valid.{Valid}
+use Rattle.lattice.proofs.Lists.{all-map}
+use Rattle.lattice.proofs.Consistency.{count-le}
+use Rattle.lattice.proofs.Clocks.{entry-≤}
+use Rattle.codec.proofs.Bytes.{Bytes}
+use Rattle.codec.proofs.Cases.{Each, e-none, e-more}
+use Rattle.codec.proofs.Snoc.{member-at}
+use Rattle.codec.proofs.Frames.{Sized, frames-bytes}
+use Rattle.codec.proofs.Frames as split
+use Rattle.codec.proofs.Lines.{IsFrame}
+use Rattle.codec.proofs.Logs.{log-items}
+use Rattle.codec.proofs.QuestionFrames.{asFrame, length-frames, question-place, questionFrames}
+use Rattle.codec.proofs.Accepted.{begun-true, readItems-invariant, accepted-begun, accepted-items, accepted-log, accepted-list}
+use Rattle.codec.proofs.Lawful.{Lawful, nothing-lawful, admitted-lawful}
+
+-- What holds of all that is read of an accepted log.
+pub record IsAccepted (m : Limits) (r : Reading) : Type 0 where
+  pub begun : 1 ≤ stations (r .computation)
+  pub lawful : Lawful m r
+
+pub items-accepted : (m : Limits) (n : ℕ) (l : List Item) (r : Reading) → readItems m n nothing l ≡ accepted r → IsAccepted m r
+items-accepted m n l r e = record {
+  begun = begun-true r (accepted-begun m n nothing r l e);
+  lawful = readItems-invariant m (Lawful m) (λ r s f law a. admitted-lawful law a) n nothing r l (nothing-lawful m) e;
+}
+
+-- A LOG
+
+module _ (m : Limits) (log : List ℕ) (r : Reading) (e : readLog m log ≡ accepted r) where
+  pub log-accepted : IsAccepted m r
+  log-accepted = items-accepted m 1 (items (linesOf log)) r (accepted-log m log r e)
+
+  -- Its lines are the frames.
+  pub log-frames : items (linesOf log) ≡ map frame (r .frames)
+  log-frames = sym (accepted-items m 1 nothing r (items (linesOf log)) (accepted-log m log r e))
+
+  pub log-are-frames : Each IsFrame (r .frames)
+  log-are-frames = log-items log (r .frames) log-frames .1
+
+-- A FRAME LIST
+
+each-frame : (fs : List (List ℕ)) → Each Sized fs → Each Bytes fs → Each IsFrame fs
+each-frame [] h g = e-none
+each-frame (f ∷ fs) (e-more h r) (e-more g s) = e-more (record { sized = h; bytes = g }) (each-frame fs r s)
+
+module _ (m : Limits) (l : List ℕ) (r : Reading) (e : readList m l ≡ accepted r) where
+  pub list-accepted : IsAccepted m r
+  list-accepted = items-accepted m 1 (map frame (r .frames)) r (accepted-list m l r e .1)
+
+  -- Its entries are the frames.
+  pub list-frames : framesOf l ≡ some (r .frames)
+  list-frames = accepted-list m l r e .0
+
+  pub list-are-frames : Bytes l → Each IsFrame (r .frames)
+  list-are-frames b = each-frame (r .frames) (split.list-frames l (r .frames) list-frames .1) (frames-bytes l (r .frames) b list-frames)
+
+-- WHAT FOLLOWS
+
+module _ {m : Limits} {r : Reading} (law : Lawful m r) where
+  -- A question of the list is good.
+  pub member-good : (φ : Formula) → Member φ (r .questions) → (sound (stations (r .computation)) φ ≡ true) × (fits φ ≡ true)
+  member-good φ h = let place = member-at h in law .good (place .0) φ (place .1)
+
+  -- No clock counts more events than there can be.
+  pub entries-small : (j k i : ℕ) → clock (r .computation) j k ! i ≤ m .events
+  entries-small j k i = omega (arith, entry-≤ (r .computation) (law .valid) j k i, count-le (r .computation) i, law .few-events)
+
+  -- The values of frames of bytes are of two bytes.
+  pub values-small : Each IsFrame (r .frames) → (j k : ℕ) → value (r .computation) j k < 65536
+  values-small h = law .small (all-map (λ f g. g .bytes) h)
+
+-- Question number q stands behind the header and the events.
+pub question-stands : {m : Limits} {r : Reading} → IsAccepted m r → (q : ℕ) → q < length (r .questions)
+    → getD (r .frames) (suc (eventCount (r .computation)) + q) [] ≡ asFrame (getD (questionFrames (r .frames)) q [])
+question-stands {m} {r} all q h =
+    let framed = all .lawful .framed in
+    let front : length (framed .front) ≡ suc (eventCount (r .computation)) = omega (arith, all .lawful .counted (all .begun), length-frames framed) in
+    rw (← front) (question-place framed q h)
+
+-- The computation K and a question f of an accepted log.
+pub record Posed (K : Computation) (f : Formula) : Type 0 where
+  pub valid : Valid K
+  pub low : 1 ≤ stations K
+  pub high : stations K ≤ 8
+  pub few : eventCount K ≤ 127
+  pub named : sound (stations K) f ≡ true
+  pub fitting : fits f ≡ true
+  pub values : (j k : ℕ) → value K j k < 65536
+  pub entries : (j k i : ℕ) → clock K j k ! i ≤ 127
+
+pub asked-valid : {log : List ℕ} {q : ℕ} {K : Computation} {f : Formula} → Asked log q K f → Posed K f
+asked-valid {log} {q} {K} {f} a =
+    let all = log-accepted limits log _ (a .reads) in
+    let law = all .lawful in
+    record {
+      valid = law .valid;
+      low = all .begun;
+      high = law .few-stations;
+      few = law .few-events;
+      named = law .good q f (a .is) .0;
+      fitting = law .good q f (a .is) .1;
+      values = values-small law (log-are-frames limits log _ (a .reads));
+      entries = entries-small law;
+    }

@@ -1,0 +1,38 @@
+-- A list with one more element at its end, and where the members of a list stand.
+use mathlib.Core.Path.{_≡_, refl}
+use Prim.Native.Nat.{ℕ, zero, suc}
+use native.Mathlib.Omega.{arith}
+use mathlib.Core.List.{List, [], _∷_, _++_}
+use mathlib.Core.Option.{some}
+use lib.ListN.{length, getD, getElem?}
+use Rattle.model.specs.Lists.{Member}
+use Rattle.model.specs.Lists.Some.{here, there}
+use Rattle.codec.proofs.Cases.{none-some, Each, e-none, e-more}
+
+pub empty-list : {A : Type 0} (l : List A) → length l ≡ 0 → l ≡ []
+empty-list [] h = refl
+empty-list (x ∷ l) h = absurd (omega arith)
+
+module _ {A : Type 0} (P : A → Type 0) where
+  -- What holds of all and of one more holds of all then.
+  pub getD-snoc : (l : List A) (x d : A) → ((i : ℕ) → P (getD l i d)) → P x → (i : ℕ) → P (getD (l ++ (x ∷ [])) i d)
+  getD-snoc [] x d h p zero = p
+  getD-snoc [] x d h p (suc i) = h 0
+  getD-snoc (y ∷ l) x d h p zero = h 0
+  getD-snoc (y ∷ l) x d h p (suc i) = getD-snoc l x d (λ j. h (suc j)) p i
+
+  pub getElem?-snoc : (l : List A) (x : A) → ((i : ℕ) (y : A) → getElem? l i ≡ some y → P y) → P x → (i : ℕ) (y : A) → getElem? (l ++ (x ∷ [])) i ≡ some y → P y
+  getElem?-snoc [] x h p zero y e = let is : x ≡ y = cc in rw (← is) p
+  getElem?-snoc [] x h p (suc i) y e = none-some e
+  getElem?-snoc (z ∷ l) x h p zero y e = h 0 y e
+  getElem?-snoc (z ∷ l) x h p (suc i) y e = getElem?-snoc l x (λ j. h (suc j)) p i y e
+
+  -- And what holds of all then held of all before, and holds of the one.
+  pub each-snoc : (l : List A) (x : A) → Each P (l ++ (x ∷ [])) → Each P l × P x
+  each-snoc [] x (e-more p h) = (e-none, p)
+  each-snoc (y ∷ l) x (e-more p h) = let r = each-snoc l x h in (e-more p (r .0), r .1)
+
+-- What is in a list stands somewhere in it.
+pub member-at : {A : Type 0} {a : A} {l : List A} → Member a l → (i : ℕ) × (getElem? l i ≡ some a)
+member-at (here e) = (0, rw e)
+member-at (there s) = (suc (member-at s .0), member-at s .1)
