@@ -1,0 +1,9 @@
+pub mod Digits
+pub mod Pairs
+pub mod Fronts
+pub mod Refusals
+pub mod Sums
+pub mod Walks
+pub mod Carried
+pub mod Puts
+pub mod Hexes

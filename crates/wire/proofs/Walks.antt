@@ -1,0 +1,107 @@
+-- The walk over a line: what holds before each pair, and what each thing that it meets comes to.
+use mathlib.Core.Path.{_≡_, ap, _∙_}
+use mathlib.Core.List.{List, [], _∷_, _++_, append-nil}
+use mathlib.Core.Option.{some}
+use Prim.Native.Nat.{ℕ, _+_, _*_, _%_, _≤_, _<_}
+use native.Mathlib.Omega.{arith}
+use native.Mathlib.Numerals.{add-one}
+use lib.ListN.{length, take, drop, set, length-append, length-drop, length-set, drop-of-length-le}
+use lib.Seq.{take-suc-set, drop-drop, length-take-le}
+use Rattle.model.specs.Lists.{total}
+use Rattle.model.specs.Bytes.{more, linesOf, bytes}
+use Rattle.wire.specs.Pairs.{pairOf}
+use Rattle.wire.specs.Walked.{Framed, Spoilt}
+use Rattle.wire.specs.declared.Pair.the-variants.{Byte, End, Broken}
+use Rattle.wire.proofs.Fronts.{Front, front-none, front-join, front-pair, lines-end, pushes, pushes-more, ahead}
+use Rattle.wire.proofs.Sums.{total-none, total-one, total-append}
+use Rattle.wire.proofs.Refusals.{Refused, refused-faulty, refused-many, refused-few, refused-broken}
+
+-- ---- before each pair: the first k of out are the bytes from `at` to i, and sum is theirs
+pub record Walking (log : List ℕ) (at : ℕ) (out : List ℕ) (k s i : ℕ) : Type 0 where
+  pub starts : at < length log
+  pub place : i ≡ at + 2 * k
+  pub inside : i ≤ length log
+  pub few : k ≤ 100
+  pub room : length out ≡ 100
+  pub adds : s ≡ total (take k out) % 256
+  pub front : Front (take k out) (drop at log) (drop i log)
+
+pub walk-start : (log : List ℕ) (at : ℕ) (out : List ℕ) → at < length log → length out ≡ 100 → Walking log at out 0 0 at
+walk-start log at out h r = record {
+  starts = h;
+  place = omega arith;
+  inside = omega arith;
+  few = omega arith;
+  room = r;
+  adds = omega (arith, total-none);
+  front = front-none (drop at log);
+}
+
+-- one pair more in front
+pair-more : {log out : List ℕ} {at k s i v : ℕ} → Walking log at out k s i → pairOf (drop i log) ≡ Byte v
+    → Front (take k out ++ (v ∷ [])) (drop at log) (drop (i + 2) log)
+pair-more {log} {i = i} {v = v} w e = front-join (w .front) (rw (drop-drop 2 i log) at (front-pair (drop i log) v e))
+
+pub walk-byte : {log out : List ℕ} {at k s i v : ℕ} → Walking log at out k s i → pairOf (drop i log) ≡ Byte v → (k ≡ 100 → ⊥)
+    → Walking log at (set out k v) (k + 1) ((s + v) % 256) (i + 2)
+walk-byte {log} {out} {at} {k} {s} {i} {v} w e n =
+    let few : k < 100 = omega (arith, w .few, n) in
+    let t : take (k + 1) (set out k v) ≡ take k out ++ (v ∷ []) = rw add-one (take-suc-set out k v (omega (arith, w .room))) in
+    record {
+      starts = w .starts;
+      place = omega (arith, w .place);
+      inside = omega (arith, length-drop i log, length-drop 2 (drop i log), front-pair (drop i log) v e .long, front-pair (drop i log) v e .two);
+      few = omega arith;
+      room = length-set out k v ∙ w .room;
+      adds = rw (t, total-append (take k out) (v ∷ []), total-one v) (omega (arith, w .adds));
+      front = rw t (pair-more w e);
+    }
+
+-- ---- the end of a line
+end-at : (log : List ℕ) (i : ℕ) → pairOf (drop i log) ≡ End → linesOf (drop i log) ≡ more [] (linesOf (drop (i + 1) log))
+end-at log i e = lines-end (drop i log) e ∙ ap (λ (s : List ℕ). more [] (linesOf s)) (drop-drop 1 i log)
+
+pub walk-end : {log out : List ℕ} {at k s i : ℕ} → Walking log at out k s i → i < length log → pairOf (drop i log) ≡ End → 2 ≤ k
+    → Framed log at k s (i + 1) out
+unfolding bytes ahead
+walk-end {log} {out} {at} {k} {s} {i} w h e two =
+    let r = w .front in
+    record {
+      text = r .passed ++ [];
+      is = r .lines ∙ ap (pushes (r .passed)) (end-at log i e) ∙ pushes-more (r .passed) [] (linesOf (drop (i + 1) log));
+      carries = r .brings [] ∙ ap some (append-nil (take k out));
+      low = two;
+      high = w .few;
+      room = omega (arith, w .few, w .room);
+      adds = w .adds;
+      after = omega (arith, w .place);
+      inside = omega arith;
+    }
+
+-- ---- what is refused
+length-bytes : {log out : List ℕ} {at k s i : ℕ} → Walking log at out k s i → length (take k out) ≡ k
+length-bytes {out = out} {k = k} w = length-take-le k out (omega (arith, w .few, w .room))
+
+spoilt : {log f t : List ℕ} {at : ℕ} → Front f (drop at log) t → Refused f (linesOf t) → Spoilt log at
+spoilt r h = let x = refused-faulty r h in record { others = x .0; is = x .1 }
+
+pub walk-many : {log out : List ℕ} {at k s i v : ℕ} → Walking log at out k s i → pairOf (drop i log) ≡ Byte v → k ≡ 100 → Spoilt log at
+walk-many {log} {out} {k = k} {i = i} {v = v} w e h =
+    spoilt (pair-more w e) (refused-many (take k out ++ (v ∷ [])) (linesOf (drop (i + 2) log)) (simp length-append (omega (arith, length-bytes w))))
+
+pub walk-few : {log out : List ℕ} {at k s i : ℕ} → Walking log at out k s i → pairOf (drop i log) ≡ End → k < 2 → Spoilt log at
+walk-few {log} {out} {k = k} {i = i} w e h =
+    spoilt (w .front) (rw (end-at log i e) (refused-few (take k out) (linesOf (drop (i + 1) log)) (omega (arith, length-bytes w))))
+
+pub walk-broken : {log out : List ℕ} {at k s i : ℕ} → Walking log at out k s i → i < length log → pairOf (drop i log) ≡ Broken → Spoilt log at
+walk-broken {log} {out} {k = k} {i = i} w h e =
+    spoilt (w .front) (refused-broken (take k out) (drop i log) (simp length-drop (omega arith)) e)
+
+-- the log ends before 0A
+over : (f t : List ℕ) → 1 ≤ length f → t ≡ [] → Refused f (linesOf t)
+unfolding linesOf
+over f t h e = rw e (omega arith)
+
+pub walk-over : {log out : List ℕ} {at k s i : ℕ} → Walking log at out k s i → length log ≤ i → Spoilt log at
+walk-over {log} {out} {k = k} {i = i} w h =
+    spoilt (w .front) (over (take k out) (drop i log) (omega (arith, length-bytes w, w .starts, w .place)) (drop-of-length-le log h))

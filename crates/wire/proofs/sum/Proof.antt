@@ -1,0 +1,44 @@
+-- The invariant: t is the sum of the first k bytes, modulo 256.
+use borrow.Author.Needs.{needs}
+use mathlib.Core.Path.{_≡_, ap, _∙_}
+use mathlib.Core.List.{List}
+use Prim.Native.Nat.{ℕ, _%_, _≤_, _-_}
+use native.Mathlib.Omega.{arith}
+use lib.ListN.{length, take}
+use lib.Seq.{take-all}
+use Rattle.model.specs.Lists.{total}
+use Rattle.wire.proofs.Sums.{total-none, total-step}
+use Rattle.wire.proofs.sum.Statement.{statement}
+use Rattle.wire.proofs.sum.Tie as tie
+
+abbrev Inv-loop : tie.InvT-loop
+Inv-loop s t₀ k₀ t k = (k ≤ length s) × (t ≡ total (take k s) % 256)
+
+abbrev μ-loop : tie.MeasureT-loop
+μ-loop s t₀ k₀ t k = length s - k
+
+loop-holds : tie.Need-loop-holds Inv-loop μ-loop
+loop-holds c = (omega arith, omega (arith, total-none))
+
+shared-slice-read-wrapping-add-u8 : tie.Need-shared-slice-read-wrapping-add-u8 Inv-loop μ-loop
+shared-slice-read-wrapping-add-u8 c = search needs
+
+wrapping-add-u8-requires : tie.Need-wrapping-add-u8-requires Inv-loop μ-loop
+wrapping-add-u8-requires c κs = search needs
+
+add-k : tie.Need-add-k Inv-loop μ-loop
+add-k c = search needs
+
+loop-less : tie.Need-loop-less Inv-loop μ-loop
+loop-less c = search needs
+
+loop-again : tie.Need-loop-again Inv-loop μ-loop
+loop-again c =
+    let l = c .before .before .before in
+    (omega arith, omega (arith, c .wrapping-add-u8 .ensures, total-step (l .before .before .args .s .now) (l .loop .k) (c .before .before .loop-test .taken)))
+
+returns : tie.Need-returns Inv-loop μ-loop
+returns c = c .before .loop .inv .1 ∙ ap (λ (l : List ℕ). total l % 256) (take-all _ _ (c .loop-test .left))
+
+pub sum-spec : {M : Type 1} → statement M
+sum-spec = tie.close (tie.spec Inv-loop μ-loop loop-holds shared-slice-read-wrapping-add-u8 wrapping-add-u8-requires add-k loop-less loop-again returns)

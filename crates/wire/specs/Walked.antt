@@ -1,0 +1,31 @@
+-- What a walk over the line that starts at `at` tells.
+use mathlib.Core.Path.{_≡_}
+use Prim.Native.Nat.{ℕ, _+_, _*_, _%_, _≤_}
+use mathlib.Core.List.{List, _∷_}
+use mathlib.Core.Option.{some}
+use lib.ListN.{length, take, drop}
+use Rattle.model.specs.Lists.{total}
+use Rattle.model.specs.Bytes.{more, linesOf, bytes, Item, bad, items}
+use Rattle.wire.specs.declared.Walk.{Walk}
+use Rattle.wire.specs.declared.Walk.the-variants.{Frame, Malformed}
+
+-- A line of 2 to 100 bytes, now the first k of out, with their sum; the next line starts at `next`.
+pub record Framed (log : List ℕ) (at k sum next : ℕ) (out : List ℕ) : Type 0 where
+  pub text : List ℕ
+  pub is : linesOf (drop at log) ≡ more text (linesOf (drop next log))
+  pub carries : bytes text ≡ some (take k out)
+  pub low : 2 ≤ k
+  pub high : k ≤ 100
+  pub room : k ≤ length out
+  pub adds : sum ≡ total (take k out) % 256
+  pub after : next ≡ at + 2 * k + 1
+  pub inside : next ≤ length log
+
+-- A line whose form is wrong.
+pub record Spoilt (log : List ℕ) (at : ℕ) : Type 0 where
+  pub others : List Item
+  pub is : items (linesOf (drop at log)) ≡ bad 2 ∷ others
+
+abbrev pub Walked : List ℕ → ℕ → Walk → List ℕ → Type 0
+Walked log at (Frame k sum next) out = Framed log at k sum next out
+Walked log at Malformed out = Spoilt log at
