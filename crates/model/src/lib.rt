@@ -2,6 +2,7 @@
 ghost use mathlib.Core.Path.{_≡_};
 ghost use lib.ListN.{replicate};
 ghost use Rattle.model.specs.Limits.{limits};
+ghost use Rattle.model.specs.Reply.{number};
 
 // The limits of a log, as one value.
 pub struct Limits {
@@ -52,7 +53,7 @@ impl Log {
     }
 }
 
-// What can be wrong; `number` of specs/Reply.antt gives each its number.
+// What can be wrong.
 pub enum Fault {
     LongLog,
     LineForm,
@@ -68,6 +69,30 @@ pub enum Fault {
     Output,
     Cut,
     FrameList,
+}
+
+impl Fault {
+    // Its number in document 01.
+    pub fn number(self) -> u8
+        ensures { λ r. ⌜ r ≡ number self ⌝ }
+    {
+        match self {
+            Fault::LongLog => 1,
+            Fault::LineForm => 2,
+            Fault::CheckByte => 3,
+            Fault::Kind => 4,
+            Fault::Header => 5,
+            Fault::Event => 6,
+            Fault::Clock => 7,
+            Fault::Formula => 8,
+            Fault::Size => 9,
+            Fault::NoQuestion => 10,
+            Fault::Workspace => 11,
+            Fault::Output => 12,
+            Fault::Cut => 13,
+            Fault::FrameList => 14,
+        }
+    }
 }
 
 // A fault, and the line where it stands, or 0.
