@@ -1,0 +1,4 @@
+pub mod Formulas
+pub mod Extents
+pub mod Measured
+pub mod Judged

@@ -1,0 +1,266 @@
+-- What is at the front of a token and the bytes after it, from what is at the front of those bytes: a law for each arity.
+use mathlib.Core.Path.{_≡_, refl, sym, ap, ap₂, _∙_}
+use mathlib.Core.Bool.{Bool, true, false, _&&_, Bool·beq, not as negated}
+use mathlib.Core.List.{List, [], _∷_}
+use mathlib.Core.Option.{Option, none}
+use Prim.Native.Nat.{ℕ, _+_, _*_, _<_, _≤_}
+use native.Mathlib.Numerals.{add-one}
+use native.Mathlib.Omega.{arith}
+use lib.Dec.{leb, ltb, eqb}
+use lib.ListN.{length, drop, getD, length-drop}
+use lib.Seq.{drop-drop, getD-drop}
+use borrow.Author.Tests.{le-leb, lt-leb, eqb-true, eqb-false, ne-eqb}
+use Rattle.model.specs.Frames.{word}
+use Rattle.model.specs.Formula.{Formula, ahead, one, two, sign, token, weigh, tokens, atoms, sound}
+use Rattle.model.specs.Formula.Formula.{inRange, not, and, or, possibly, always}
+use Rattle.model.specs.Rules.{Normal, asTrue, asFalse}
+use Rattle.model.specs.Size.{width, bars, slim, narrow}
+use Rattle.codec.proofs.Formulas.{formulas-none, formulas-token}
+use Rattle.query.specs.declared.Extent.{Extent}
+use Rattle.query.specs.declared.Extent.the-variants.{Narrow}
+use Rattle.query.specs.declared.Size.{Size}
+use Rattle.query.specs.declared.Front.{Front}
+use Rattle.query.specs.declared.Front.the-variants.{Nothing, Formula as One}
+use Rattle.query.specs.Extents.{extentOf, joined, lifted}
+use Rattle.query.specs.Measured.{formulas, first, under, Sized, Measured, Short, Brief, Longer, Together}
+use Rattle.query.proofs.Extents.{extent-small}
+use Rattle.query.proofs.Formulas.{one-ahead, two-ahead, one-first, two-first, two-second}
+
+-- TOKENS
+
+-- Bytes that are not empty are their token and what is after it.
+pub token-rest : (q r : List ℕ) → (length q ≡ 0 → ⊥) → r ≡ drop 1 q → q ≡ getD q 0 0 ∷ r
+token-rest [] r h e = absurd (h refl)
+token-rest (t ∷ q) r h e = ap (λ (l : List ℕ). t ∷ l) (sym e)
+
+-- "and", or "or".
+abbrev joining : Bool → Formula → Formula → Formula
+joining true = and
+joining false = or
+
+-- Possibly, or always.
+abbrev modal : Bool → Formula → Formula
+modal true = possibly
+modal false = always
+
+sign-two : (t : ℕ) (o : Option (List Formula)) → 2 < t → t < 5 → sign t o ≡ two (joining (eqb t 3)) o
+unfolding sign
+sign-two t o h l = go (eqb t 3) refl
+  where
+    go : (b : Bool) → eqb t 3 ≡ b → sign t o ≡ two (joining (eqb t 3)) o
+    go true e = rw (eqb-true t 3 e)
+    go false e = let f : t ≡ 4 = omega (arith, eqb-false t 3 e) in rw f
+
+sign-modal : (t : ℕ) (o : Option (List Formula)) → 4 < t → t < 7 → sign t o ≡ one (modal (eqb t 5)) o
+unfolding sign
+sign-modal t o h l = go (eqb t 5) refl
+  where
+    go : (b : Bool) → eqb t 5 ≡ b → sign t o ≡ one (modal (eqb t 5)) o
+    go true e = rw (eqb-true t 5 e)
+    go false e = let f : t ≡ 6 = omega (arith, eqb-false t 5 e) in rw f
+
+-- THE RULES UNDER A SIGN
+
+under-not : (s : Bool) (f : Formula) → under (negated s) f ≡ under s (not f)
+unfolding under asTrue asFalse
+under-not true f = refl
+under-not false f = refl
+
+under-modal : (b s : Bool) (f : Formula) → lifted (Bool·beq b s) (under b f) ≡ under s (modal b f)
+unfolding lifted under asTrue asFalse
+under-modal true true f = refl
+under-modal true false f = refl
+under-modal false true f = refl
+under-modal false false f = refl
+
+under-joining : (b s : Bool) (f g : Formula) → joined (Bool·beq b s) (under s f) (under s g) ≡ under s (joining b f g)
+unfolding joined under asTrue asFalse
+under-joining true true f g = refl
+under-joining true false f g = refl
+under-joining false true f g = refl
+under-joining false false f g = refl
+
+extent-range : (s : Bool) (a lo hi : ℕ) → Narrow 1 0 ≡ extentOf (under s (inRange a lo hi))
+unfolding extentOf under asTrue asFalse narrow slim width bars
+extent-range true a lo hi = refl
+extent-range false a lo hi = refl
+
+-- COUNTS
+
+-- A sign of one operand adds a token that is no 01.
+record Unary (n : ℕ) (c : Formula → Formula) : Type 0 where
+  pub more : (f : Formula) → tokens (c f) ≡ 1 + tokens f
+  pub same : (f : Formula) → atoms (c f) ≡ 0 + atoms f
+  pub order : (f : Formula) → sound n (c f) ≡ sound n f
+
+unary-not : (n : ℕ) → Unary n not
+unfolding weigh sound
+unary-not n = record { more = λ f. refl; same = λ f. refl; order = λ f. refl }
+
+unary-modal : (n : ℕ) (b : Bool) → Unary n (modal b)
+unfolding weigh sound
+unary-modal n true = record { more = λ f. refl; same = λ f. refl; order = λ f. refl }
+unary-modal n false = record { more = λ f. refl; same = λ f. refl; order = λ f. refl }
+
+weigh-joining : (a u k : ℕ) (b : Bool) (f g : Formula) → weigh a u k (joining b f g) ≡ k + weigh a u k f + weigh a u k g
+unfolding weigh
+weigh-joining a u k true f g = refl
+weigh-joining a u k false f g = refl
+
+sound-joining : (n : ℕ) (b : Bool) (f g : Formula) → sound n (joining b f g) ≡ (sound n f && sound n g)
+unfolding sound
+sound-joining n true f g = refl
+sound-joining n false f g = refl
+
+-- WHAT A SIZE TELLS
+
+pub sized-short : {n : ℕ} {s : Bool} {q : List ℕ} {z : Size} → length q ≤ 99 → Sized n s q z → Short z
+sized-short {s = s} h x =
+    record {
+      used = omega arith;
+      tokens = omega arith;
+      atoms = omega arith;
+      extent = rw (x .extent) (extent-small (under s (x .formula)));
+    }
+
+pub measured-brief : (n : ℕ) (s : Bool) (q : List ℕ) (p : Front) → length q ≤ 99 → Measured n s q p → Brief p
+measured-brief n s q Nothing h x = tt
+measured-brief n s q (One z) h x = sized-short h x
+
+-- A TOKEN 01
+
+pub nothing-range : (q : List ℕ) → length q < 5 → first (formulas (1 ∷ q)) ≡ none
+unfolding token first
+nothing-range q h = rw (formulas-token 1 q, lt-leb 5 (length q) h)
+
+pub sized-range :
+    (n : ℕ) (s : Bool) (q : List ℕ) {lo hi : ℕ} {b : Bool}
+    → 5 ≤ length q
+    → lo ≡ 256 * getD q 1 0 + getD q 2 0
+    → hi ≡ 256 * getD q 3 0 + getD q 4 0
+    → b ≡ (ltb (getD q 0 0) n && leb lo hi)
+    → Sized n s (1 ∷ q) (record { used = 6; tokens = 1; atoms = 1; sound = b; extent = Narrow 1 0 })
+unfolding token weigh sound word
+sized-range n s q h l u e =
+    record {
+      formula = inRange (getD q 0 0) (word (drop 1 q)) (word (drop 3 q));
+      reads = rw (formulas-token 1 q, le-leb 5 (length q) h);
+      within = omega arith;
+      bytes = omega arith;
+      tokens = refl;
+      atoms = refl;
+      ordered = rw (e, l, u) (simp getD-drop);
+      extent = extent-range s _ _ _;
+    }
+
+-- NO TOKEN
+
+pub nothing-empty : (q : List ℕ) → length q ≡ 0 → first (formulas q) ≡ none
+unfolding first
+nothing-empty [] h = rw formulas-none
+nothing-empty (t ∷ q) h = absurd (omega arith)
+
+module _ (t : ℕ) (q : List ℕ) where
+  signed : (t ≡ 1 → ⊥) → formulas (t ∷ q) ≡ sign t (formulas q)
+  unfolding token
+  signed h = rw (formulas-token t q, ne-eqb t 1 h)
+
+  pub nothing-zero : t ≡ 0 → first (formulas (t ∷ q)) ≡ none
+  unfolding sign first
+  nothing-zero h = ap first (signed (λ o. omega arith)) ∙ rw h
+
+  pub nothing-above : 6 < t → first (formulas (t ∷ q)) ≡ none
+  unfolding sign first
+  nothing-above h =
+      ap first (signed (λ o. omega arith))
+      ∙ simp (ne-eqb t 2 (λ o. omega arith), ne-eqb t 3 (λ o. omega arith), ne-eqb t 4 (λ o. omega arith), ne-eqb t 5 (λ o. omega arith), ne-eqb t 6 (λ o. omega arith))
+
+-- ONE OPERAND
+
+sized-one :
+    {n : ℕ} {s o : Bool} {t : ℕ} {q : List ℕ} {z r : Size} {i : Extent} (c : Formula → Formula)
+    → Unary n c
+    → formulas (t ∷ q) ≡ one c (formulas q)
+    → (x : Sized n o q z)
+    → i ≡ extentOf (under s (c (x .formula)))
+    → Longer z i r
+    → Sized n s (t ∷ q) r
+sized-one {t = t} {q = q} {z = z} {r = r} c u k x i l =
+    let d : drop (r .used) (t ∷ q) ≡ drop (z .used) q = rw (l .used, add-one) in
+    record {
+      formula = c (x .formula);
+      reads = k ∙ ap (one c) (x .reads) ∙ one-ahead c (x .formula) _ ∙ ap (λ (p : List ℕ). ahead (c (x .formula)) (formulas p)) (sym d);
+      within = omega arith;
+      bytes = omega arith;
+      tokens = omega (arith, u .more (x .formula));
+      atoms = omega (arith, u .same (x .formula));
+      ordered = l .ordered ∙ x .ordered ∙ sym (u .order (x .formula));
+      extent = l .extent ∙ i;
+    }
+
+spelt-not : (q : List ℕ) → formulas (2 ∷ q) ≡ one not (formulas q)
+unfolding token sign
+spelt-not q = formulas-token 2 q
+
+pub nothing-not : (q : List ℕ) → first (formulas q) ≡ none → first (formulas (2 ∷ q)) ≡ none
+nothing-not q p = ap first (spelt-not q) ∙ one-first not (formulas q) p
+
+pub sized-not : {n : ℕ} {s : Bool} {q : List ℕ} {z r : Size} → Sized n (negated s) q z → Longer z (z .extent) r → Sized n s (2 ∷ q) r
+sized-not {n} {s} {q} x l = sized-one not (unary-not n) (spelt-not q) x (x .extent ∙ ap extentOf (under-not s (x .formula))) l
+
+module _ (t : ℕ) (h : 4 < t) (l : t < 7) (q : List ℕ) where
+  spelt-modal : formulas (t ∷ q) ≡ one (modal (eqb t 5)) (formulas q)
+  spelt-modal = signed t q (λ o. omega arith) ∙ sign-modal t (formulas q) h l
+
+  pub nothing-modal : first (formulas q) ≡ none → first (formulas (t ∷ q)) ≡ none
+  nothing-modal p = ap first spelt-modal ∙ one-first (modal (eqb t 5)) (formulas q) p
+
+  pub sized-modal :
+      {n : ℕ} {s : Bool} {z r : Size} {i : Extent}
+      → Sized n (eqb t 5) q z
+      → ((p : Normal) → z .extent ≡ extentOf p → i ≡ extentOf (lifted (Bool·beq (eqb t 5) s) p))
+      → Longer z i r
+      → Sized n s (t ∷ q) r
+  sized-modal {n} {s} x i k =
+      sized-one (modal (eqb t 5)) (unary-modal n (eqb t 5)) spelt-modal x
+      (i (under (eqb t 5) (x .formula)) (x .extent) ∙ ap extentOf (under-modal (eqb t 5) s (x .formula))) k
+
+-- TWO OPERANDS
+
+module _ (t : ℕ) (h : 2 < t) (l : t < 5) (q : List ℕ) where
+  spelt-two : formulas (t ∷ q) ≡ two (joining (eqb t 3)) (formulas q)
+  spelt-two = signed t q (λ o. omega arith) ∙ sign-two t (formulas q) h l
+
+  pub nothing-left : first (formulas q) ≡ none → first (formulas (t ∷ q)) ≡ none
+  nothing-left p = ap first spelt-two ∙ two-first (joining (eqb t 3)) (formulas q) p
+
+  module _ {n : ℕ} {s : Bool} {y : Size} (x : Sized n s q y) where
+    pub nothing-right : first (formulas (drop (y .used) q)) ≡ none → first (formulas (t ∷ q)) ≡ none
+    nothing-right p =
+        ap first (spelt-two ∙ ap (two (joining (eqb t 3))) (x .reads)) ∙ two-second (joining (eqb t 3)) (x .formula) _ p
+
+    pub sized-two :
+        {z r : Size} {i : Extent}
+        → Sized n s (drop (y .used) q) z
+        → ((p o : Normal) → y .extent ≡ extentOf p → z .extent ≡ extentOf o → i ≡ extentOf (joined (Bool·beq (eqb t 3) s) p o))
+        → Together y z i r
+        → Sized n s (t ∷ q) r
+    sized-two {z} {r} w i k =
+        let b = eqb t 3 in
+        let f = x .formula in
+        let g = w .formula in
+        let d : drop (r .used) (t ∷ q) ≡ drop (z .used) (drop (y .used) q) = rw (k .used, add-one, drop-drop) in
+        record {
+          formula = joining b f g;
+          reads =
+              spelt-two
+              ∙ ap (two (joining b)) (x .reads ∙ ap (ahead f) (w .reads))
+              ∙ two-ahead (joining b) f g _
+              ∙ ap (λ (p : List ℕ). ahead (joining b f g) (formulas p)) (sym d);
+          within = omega (arith, length-drop (y .used) q);
+          bytes = omega arith;
+          tokens = omega (arith, weigh-joining 1 1 1 b f g);
+          atoms = omega (arith, weigh-joining 1 0 0 b f g);
+          ordered = k .ordered ∙ ap₂ _&&_ (x .ordered) (w .ordered) ∙ sym (sound-joining n b f g);
+          extent = k .extent ∙ i (under s f) (under s g) (x .extent) (w .extent) ∙ ap extentOf (under-joining b s f g);
+        }

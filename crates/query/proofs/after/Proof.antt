@@ -1,0 +1,22 @@
+-- `query::after` meets its contract: a part up to the end is what is left. Assumes nothing.
+use native.Mathlib.Nat.{le-of-eq}
+use lib.ListN.{length-drop}
+use lib.Seq.{take-all}
+use borrow.Author.Needs.{needs}
+use Rattle.query.proofs.after.Statement.{statement}
+use Rattle.query.proofs.after.Tie as tie
+
+sub-result : tie.Need-sub-result
+sub-result c = search needs
+
+part-result-start : tie.Need-part-result-start
+part-result-start c = search needs
+
+part-result-end : tie.Need-part-result-end
+part-result-end c = search needs
+
+returns : tie.Need-returns
+returns c = take-all _ _ (le-of-eq (length-drop (c .before .args .k) (c .before .args .q .now)))
+
+pub after-spec : {M : Type 1} → statement M
+after-spec = tie.close (tie.spec sub-result part-result-start part-result-end returns)

@@ -1,0 +1,65 @@
+-- `query::judge` meets its contract: each way out is one law of the verdict. Assumes nothing.
+use mathlib.Core.Bool.{true}
+use borrow.Author.Tests.{not-true, not-false}
+use borrow.Author.Needs.{needs}
+use Rattle.query.specs.Measured.{Sized}
+use Rattle.query.proofs.Judged.{judged-nothing, judged-more, judged-order, judged-tokens, judged-atoms, judged-wide, judged-fine}
+use Rattle.query.proofs.judge.Statement.{statement}
+use Rattle.query.proofs.judge.Tie as tie
+
+-- The size of the formula at the front.
+size : (c : tie.After-known-told) → Sized (c .before .before .before .before .before .args .n) true (c .before .before .before .before .before .args .q .now) (c .before .m .given .0 .0)
+size c = rw (c .before .m .given .1) at (c .before .before .before .measure .ensures)
+
+measure-requires : tie.Need-measure-requires
+measure-requires c κs = search needs
+
+enum-known-m : tie.Need-enum-known-m
+enum-known-m c = search needs
+
+enum-told : tie.Need-enum-told
+enum-told c = search needs
+
+returns : tie.Need-returns
+returns c = judged-nothing (c .before .before .before .before .args .n) (c .before .before .before .before .args .q .now) (rw (c .enum-told .given .1) at (c .before .before .measure .ensures))
+
+returns-2 : tie.Need-returns-2
+returns-2 c = judged-more (size (c .before .before)) (c .if1 .taken)
+
+returns-3 : tie.Need-returns-3
+returns-3 c = judged-order (size (c .before .before .before .before)) (c .before .before .if1 .left) (not-true _ (c .if2 .taken))
+
+returns-4 : tie.Need-returns-4
+returns-4 c = judged-tokens (size (c .before .before .before .before .before .before)) (c .before .before .before .before .if1 .left) (not-false _ (c .before .before .if2 .left)) (c .if3 .taken)
+
+returns-5 : tie.Need-returns-5
+returns-5 c = judged-atoms (size (c .before .before .before .before .before .before .before .before)) (c .before .before .before .before .before .before .if1 .left) (not-false _ (c .before .before .before .before .if2 .left)) (c .before .before .if3 .left) (c .if4 .taken)
+
+enum-told-2 : tie.Need-enum-told-2
+enum-told-2 c = search needs
+
+enum-told-3 : tie.Need-enum-told-3
+enum-told-3 c = search needs
+
+returns-6 : tie.Need-returns-6
+returns-6 c = judged-wide (size (c .before .before .before .before .before .before .before .before .before .before)) (c .before .before .before .before .before .before .before .before .if1 .left) (not-false _ (c .before .before .before .before .before .before .if2 .left)) (c .before .before .before .before .if3 .left) (c .before .before .if4 .left) (c .enum-told3 .given .1)
+
+returns-7 : tie.Need-returns-7
+returns-7 c = judged-fine (size (c .before .before .before .before .before .before .before .before .before .before)) (c .before .before .before .before .before .before .before .before .if1 .left) (not-false _ (c .before .before .before .before .before .before .if2 .left)) _ _ (c .before .before .before .before .if3 .left) (c .before .before .if4 .left) (c .enum-told2 .given .1)
+
+pub judge-spec : {M : Type 1} → statement M
+judge-spec =
+    tie.close
+    (tie.spec
+    measure-requires
+    enum-known-m
+    enum-told
+    returns
+    returns-2
+    returns-3
+    returns-4
+    returns-5
+    enum-told-2
+    enum-told-3
+    returns-6
+    returns-7)

@@ -1,0 +1,4 @@
+-- The definitions that the contracts cite.
+pub mod Judged
+pub mod Extents
+pub mod Measured

@@ -1,0 +1,255 @@
+// Whether a question's bytes are exactly one formula, with its stations and ranges in order and its size within the limits.
+ghost use mathlib.Core.Path.{_≡_};
+ghost use mathlib.Core.Bool.{Bool, _&&_, not};
+ghost use mathlib.Core.List.{List, _∷_};
+ghost use Prim.Native.Nat.{ℕ, _+_, _*_, _≤_, _<_, max};
+ghost use lib.ListN.{length, drop};
+ghost use lib.Dec.{eqb};
+ghost use Rattle.model.specs.Formula.{formulaOf};
+ghost use Rattle.model.specs.Rules.{Normal};
+ghost use Rattle.query.specs.Judged.{judged, faultOf};
+ghost use Rattle.query.specs.Extents.{extentOf, bounded, joined, lifted, Small};
+ghost use Rattle.query.specs.Measured.{Measured, Sized, Short, Brief, Longer, Together};
+
+// What is said of a question.
+pub enum Verdict {
+    Fine,
+    Malformed,
+    TooLarge,
+}
+
+// Width and bar count; or one of them is over its limit at some token.
+enum Extent {
+    Wide,
+    Narrow(usize, usize),
+}
+
+// A formula that was read: its bytes, its tokens, how many of them are 01, whether stations and ranges are in order, and
+// its extent under the sign it is used in.
+struct Size {
+    pub used: usize,
+    pub tokens: usize,
+    pub atoms: usize,
+    pub sound: bool,
+    pub extent: Extent,
+}
+
+// What stands at the front of some bytes.
+enum Front {
+    Nothing,
+    Formula(Size),
+}
+
+// What stands from k on.
+fn after(q: &[u8], k: usize) -> &[u8]
+    requires { ⌜ k ≤ length (now q) ⌝ }
+    ensures { λ r. ⌜ now r ≡ drop k (now (q .entry)) ⌝ }
+{
+    &q[k..]
+}
+
+// A number of two bytes.
+fn word(h: u8, l: u8) -> usize
+    ensures { λ r. ⌜ r ≡ 256 * h + l ⌝ }
+{
+    256 * (h as usize) + (l as usize)
+}
+
+// Whether both hold.
+fn and(a: bool, b: bool) -> bool
+    ensures { λ r. ⌜ r ≡ (a && b) ⌝ }
+{
+    a && b
+}
+
+// The larger.
+fn larger(a: usize, b: usize) -> usize
+    ensures { λ r. ⌜ r ≡ max a b ⌝ }
+{
+    if a <= b { b } else { a }
+}
+
+// A width and a bar count within their limits.
+fn limit(w: usize, b: usize) -> Extent
+    ensures { λ r. ⌜ r ≡ bounded w b ⌝ }
+{
+    if 16 < w {
+        return Extent::Wide;
+    }
+    if 16 < b {
+        return Extent::Wide;
+    }
+    Extent::Narrow(w, b)
+}
+
+// "and" multiplies widths and adds bars, "or" adds widths and keeps the larger bar count.
+fn join(a: Extent, b: Extent, pair: bool) -> Extent
+    requires { ⌜ Small a × Small b ⌝ }
+    ensures { λ r. ⌜ ((p q : Normal) → a ≡ extentOf p → b ≡ extentOf q → r ≡ extentOf (joined pair p q)) ⌝ }
+{
+    let Extent::Narrow(w, x) = a else {
+        return Extent::Wide;
+    };
+    let Extent::Narrow(v, y) = b else {
+        return Extent::Wide;
+    };
+    if pair {
+        limit(w * v, x + y)
+    } else {
+        limit(w + v, larger(x, y))
+    }
+}
+
+// Possibly keeps the width and has no bars, not possibly has one structure with a bar for each of the operand's.
+fn lift(a: Extent, keep: bool) -> Extent
+    ensures { λ r. ⌜ ((p : Normal) → a ≡ extentOf p → r ≡ extentOf (lifted keep p)) ⌝ }
+{
+    let Extent::Narrow(w, x) = a else {
+        return Extent::Wide;
+    };
+    if keep {
+        Extent::Narrow(w, 0)
+    } else {
+        Extent::Narrow(1, w)
+    }
+}
+
+// A size with one token more in front.
+fn longer(z: Size, e: Extent) -> Size
+    requires { ⌜ Short z ⌝ }
+    ensures { λ r. ⌜ Longer z e r ⌝ }
+{
+    Size {
+        used: z.used + 1,
+        tokens: z.tokens + 1,
+        atoms: z.atoms,
+        sound: z.sound,
+        extent: e,
+    }
+}
+
+// Two sizes with one token in front.
+fn together(y: Size, z: Size, e: Extent) -> Size
+    requires { ⌜ Short y × Short z ⌝ }
+    ensures { λ r. ⌜ Together y z e r ⌝ }
+{
+    Size {
+        used: y.used + z.used + 1,
+        tokens: y.tokens + z.tokens + 1,
+        atoms: y.atoms + z.atoms,
+        sound: and(y.sound, z.sound),
+        extent: e,
+    }
+}
+
+// A token 01 before `rest`: five bytes of it are its station and its range.
+fn atom(rest: &[u8], n: usize) -> Front
+    ensures { λ r. ⌜ ((s : Bool) → Measured n s (1 ∷ now (rest .entry)) r) ⌝ }
+{
+    if rest.len() < 5 {
+        return Front::Nothing;
+    }
+    let s = rest[0] as usize;
+    let lo = word(rest[1], rest[2]);
+    let hi = word(rest[3], rest[4]);
+    Front::Formula(Size {
+        used: 6,
+        tokens: 1,
+        atoms: 1,
+        sound: and(s < n, lo <= hi),
+        extent: Extent::Narrow(1, 0),
+    })
+}
+
+// Not: one token more.
+fn negated(p: Front) -> Front
+    requires { ⌜ Brief p ⌝ }
+    ensures { λ r. ⌜ ((n : ℕ) (s : Bool) (q : List ℕ) → Measured n (not s) q p → Measured n s (2 ∷ q) r) ⌝ }
+{
+    let Front::Formula(z) = p else {
+        return Front::Nothing;
+    };
+    let e = z.extent;
+    Front::Formula(longer(z, e))
+}
+
+// Possibly works on its operand as true, always on its operand as false.
+fn modal(t: u8, sign: bool, p: Front) -> Front
+    requires { ⌜ Brief p × ((4 < t) × (t < 7)) ⌝ }
+    ensures { λ r. ⌜ ((n : ℕ) (q : List ℕ) → Measured n (eqb t 5) q p → Measured n sign (t ∷ q) r) ⌝ }
+{
+    let Front::Formula(z) = p else {
+        return Front::Nothing;
+    };
+    let a = z.extent;
+    let e = lift(a, (t == 5) == sign);
+    Front::Formula(longer(z, e))
+}
+
+// "and" under negation is joined as "or" and the reverse; p is what stands after the left operand.
+fn paired(t: u8, sign: bool, y: Size, p: Front) -> Front
+    requires { ⌜ (Short y × Brief p) × ((2 < t) × (t < 5)) ⌝ }
+    ensures { λ r. ⌜ ((n : ℕ) (q : List ℕ) → Sized n sign q y → Measured n sign (drop (y .used) q) p → Measured n sign (t ∷ q) r) ⌝ }
+{
+    let Front::Formula(z) = p else {
+        return Front::Nothing;
+    };
+    let a = y.extent;
+    let b = z.extent;
+    let e = join(a, b, (t == 3) == sign);
+    Front::Formula(together(y, z, e))
+}
+
+// The size of the formula at the front of q under a sign, where there is one.
+fn measure(q: &[u8], n: usize, sign: bool) -> Front
+    requires { ⌜ length (now q) ≤ 99 ⌝ }
+    ensures { λ r. ⌜ Measured n sign (now (q .entry)) r ⌝ }
+{
+    if q.len() == 0 {
+        return Front::Nothing;
+    }
+    let t = q[0];
+    let rest = after(q, 1);
+    match t {
+        1 => atom(rest, n),
+        2 => negated(measure(rest, n, !sign)),
+        3 | 4 => {
+            let l = measure(rest, n, sign);
+            let Front::Formula(y) = l else {
+                return Front::Nothing;
+            };
+            let k = y.used;
+            paired(t, sign, y, measure(after(rest, k), n, sign))
+        }
+        5 | 6 => modal(t, sign, measure(rest, n, t == 5)),
+        0 | 7..=255 => Front::Nothing,
+    }
+}
+
+// Whether the question is one formula, in order, and not too large.
+pub fn judge(q: &[u8], n: usize) -> Verdict
+    requires { ⌜ length (now q) ≤ 99 ⌝ }
+    ensures { λ r. ⌜ faultOf r ≡ judged n (formulaOf (now (q .entry))) ⌝ }
+{
+    let m = measure(q, n, true);
+    let Front::Formula(z) = m else {
+        return Verdict::Malformed;
+    };
+    if z.used != q.len() {
+        return Verdict::Malformed;
+    }
+    if !z.sound {
+        return Verdict::Malformed;
+    }
+    if 32 < z.tokens {
+        return Verdict::TooLarge;
+    }
+    if 12 < z.atoms {
+        return Verdict::TooLarge;
+    }
+    let e = z.extent;
+    let Extent::Narrow(_, _) = e else {
+        return Verdict::TooLarge;
+    };
+    Verdict::Fine
+}
