@@ -1,0 +1,55 @@
+-- The kind decides, as in the definition. Assumes nothing.
+use Rattle.model.specs.declared.Fault.the-variants.{Kind}
+use Rattle.log.proofs.Steps.{turned, kind-unknown}
+use borrow.Author.Needs.{needs}
+use Rattle.log.proofs.admit.Statement.{statement}
+use Rattle.log.proofs.admit.Tie as tie
+
+shared-slice-read-kind : tie.Need-shared-slice-read-kind
+shared-slice-read-kind c = search needs
+
+header-requires : tie.Need-header-requires
+header-requires c κs = let p = c .before .before .before .before .before .pre in (p .0, (p .1 .0, c .before .match .keys1, p .1 .2))
+
+event-requires : tie.Need-event-requires
+event-requires c κs = let p = c .before .before .before .before .before .pre in (p .0, (p .1 .0, c .before .match .keys2, p .1 .2))
+
+question-requires : tie.Need-question-requires
+question-requires c κs = let p = c .before .before .before .before .pre in (p .0, (p .1 .0, p .1 .1, c .match .keys3))
+
+faulty-requires : tie.Need-faulty-requires
+faulty-requires c κs = search needs
+
+same-length : tie.Need-same-length
+same-length c = search needs
+
+returns : tie.Need-returns
+returns c = c .before .before .header .ensures
+
+same-length-2 : tie.Need-same-length-2
+same-length-2 c = search needs
+
+returns-2 : tie.Need-returns-2
+returns-2 c = c .before .before .event .ensures
+
+returns-3 : tie.Need-returns-3
+returns-3 c = c .question .ensures _
+
+returns-4 : tie.Need-returns-4
+returns-4 c = turned Kind _ (c .faulty .ensures) (c .before .before .before .before .before .pre .0) (λ r h. kind-unknown r _ (c .before .match .rest .0 .0 .1) (c .before .match .rest .0 .1) (c .before .match .rest .1))
+
+pub admit-spec : {M : Type 1} → statement M
+admit-spec =
+    tie.close
+    (tie.spec
+    shared-slice-read-kind
+    header-requires
+    event-requires
+    question-requires
+    faulty-requires
+    same-length
+    returns
+    same-length-2
+    returns-2
+    returns-3
+    returns-4)

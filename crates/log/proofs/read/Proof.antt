@@ -1,0 +1,70 @@
+-- What `load` comes to decides; the list is put at the front of the output. Assumes nothing.
+use mathlib.Core.Path.{_≡_, sym}
+use native.Mathlib.Omega.{arith}
+use lib.ListN.{length, length-take}
+use lib.Seq.{length-take-le}
+use Rattle.log.specs.Loaded.{Accepts}
+use Rattle.log.proofs.Operations.{loads-accepted, loads-refused, read-refused, read-no-room, read-done}
+use borrow.Author.Needs.{needs}
+use Rattle.log.proofs.read.Statement.{statement}
+use Rattle.log.proofs.read.Tie as tie
+
+slice-aggregate-load : tie.Need-slice-aggregate-load
+slice-aggregate-load c = search needs
+
+slice-aggregate-load-2 : tie.Need-slice-aggregate-load-2
+slice-aggregate-load-2 c = search needs
+
+load-requires : tie.Need-load-requires
+load-requires c κs = search needs
+
+enum-told : tie.Need-enum-told
+enum-told c = search needs
+
+-- the log is accepted
+accepts : (c : tie.After-enum-told) → Accepts (c .before .before .before .before .before .before .before .before .before .args .log .now) (c .before .before .before .before .load .result .state) (c .before .before .before .before .load .result .length) (c .before .before .before .before .load .last .1 .0) (c .before .before .before .before .load .last .1 .1 .0)
+accepts c = loads-accepted _ _ _ _ _ _ (c .before .before .before .before .load .ensures) (c .enum-told .given .1)
+
+long : (c : tie.After-enum-told) → length (c .before .before .before .before .load .last .1 .0) ≡ 4096
+long c = search needs
+
+returns : tie.Need-returns
+returns c = read-no-room (accepts (c .before)) _ (c .if1 .taken)
+
+array-share-prefix-list : tie.Need-array-share-prefix-list
+array-share-prefix-list c = let a = accepts (c .before) in omega (arith, long (c .before), a .short)
+
+slice-aggregate-put : tie.Need-slice-aggregate-put
+slice-aggregate-put c = let a = accepts (c .before .before) in sym (length-take-le _ _ (omega (arith, long (c .before .before), a .short)))
+
+put-requires : tie.Need-put-requires
+put-requires c κs = let a = accepts (c .before .before .before) in simp length-take (omega (arith, a .short, c .before .before .if1 .left))
+
+enum-known-outcome : tie.Need-enum-known-outcome
+enum-known-outcome c = search needs
+
+same-length : tie.Need-same-length
+same-length c = search needs
+
+returns-2 : tie.Need-returns-2
+returns-2 c = read-done (accepts (c .before .before .before .before .before .before .before)) _ (long (c .before .before .before .before .before .before .before)) (c .before .before .before .before .before .before .if1 .left) _ (c .before .before .before .put .ensures)
+
+returns-3 : tie.Need-returns-3
+returns-3 c = let L = c .before .before .before .before .before .load in read-refused _ _ (loads-refused (c .before .before .before .before .before .before .before .before .before .before .args .log .now) (L .result .state) (L .result .length) (L .last .1 .0) (L .last .1 .1 .0) _ (L .ensures) (c .before .outcome .given .1))
+
+pub read-spec : {M : Type 1} → statement M
+read-spec =
+    tie.close
+    (tie.spec
+    slice-aggregate-load
+    slice-aggregate-load-2
+    load-requires
+    enum-told
+    returns
+    array-share-prefix-list
+    slice-aggregate-put
+    put-requires
+    enum-known-outcome
+    same-length
+    returns-2
+    returns-3)

@@ -1,0 +1,71 @@
+-- Each refusal is one test of the definition, in its order; the lines of an accepted list fit. Assumes nothing.
+use borrow.Author.Tests.{not-true, not-false}
+use mathlib.Core.Path.{sym, _∙_}
+use native.Mathlib.Omega.{arith}
+use Rattle.log.specs.Entries.{Formed, Allowed}
+use Rattle.log.proofs.Writes.{list-long, list-unformed, allowed-frames}
+use Rattle.log.proofs.Operations.{tried-accepted, tried-refused, write-refused, write-no-room, write-done}
+use borrow.Author.Needs.{needs}
+use Rattle.log.proofs.write.Statement.{statement}
+use Rattle.log.proofs.write.Tie as tie
+
+-- the list has the form of one
+form : (c : tie.Else2) → Formed (c .before .before .before .before .before .args .list .now)
+form c = sym (c .before .lengths-ok .ensures) ∙ not-false _ (c .if2 .left)
+
+-- it is accepted
+allowed : (c : tie.After-enum-told) → Allowed (c .before .before .before .before .before .before .before .before .before .before .args .list .now)
+allowed c = tried-accepted _ _ (c .before .before .before .try-entries .ensures) (c .enum-told .given .1)
+
+returns : tie.Need-returns
+returns c = write-refused _ _ (list-long _ (c .if1 .taken))
+
+lengths-ok-requires : tie.Need-lengths-ok-requires
+lengths-ok-requires c κs = search needs
+
+returns-2 : tie.Need-returns-2
+returns-2 c = write-refused _ _ (list-unformed _ (c .before .before .if1 .left) (sym (c .before .lengths-ok .ensures) ∙ not-true _ (c .if2 .taken)))
+
+slice-aggregate-try-entries : tie.Need-slice-aggregate-try-entries
+slice-aggregate-try-entries c = search needs
+
+try-entries-requires : tie.Need-try-entries-requires
+try-entries-requires c κs = (form (c .before), (c .before .before .before .if1 .left, search needs))
+
+enum-told : tie.Need-enum-told
+enum-told c = search needs
+
+returns-3 : tie.Need-returns-3
+returns-3 c = write-no-room (allowed (c .before)) _ (c .if3 .taken)
+
+put-lines-requires : tie.Need-put-lines-requires
+put-lines-requires c κs = let f = allowed-frames (c .before .before .before .before .before .before .before .before .before .if1 .left) (form (c .before .before .before .before .before .before .before)) (allowed (c .before .before)) in (form (c .before .before .before .before .before .before .before), omega (arith, f .1, c .before .if3 .left))
+
+enum-known-refusal : tie.Need-enum-known-refusal
+enum-known-refusal c = search needs
+
+same-length : tie.Need-same-length
+same-length c = search needs
+
+returns-4 : tie.Need-returns-4
+returns-4 c = write-done (allowed (c .before .before .before .before .before)) _ (allowed-frames (c .before .before .before .before .before .before .before .before .before .before .before .before .if1 .left) (form (c .before .before .before .before .before .before .before .before .before .before)) (allowed (c .before .before .before .before .before)) .0) (c .before .before .before .before .if3 .left) _ _ (c .before .before .put-lines .ensures .0) (c .before .before .put-lines .ensures .1)
+
+returns-5 : tie.Need-returns-5
+returns-5 c = write-refused _ _ (tried-refused (c .before .before .before .before .before .before .before .before .before .before .before .args .list .now) _ (c .before .before .before .before .try-entries .ensures) (c .before .refusal .given .1))
+
+pub write-spec : {M : Type 1} → statement M
+write-spec =
+    tie.close
+    (tie.spec
+    returns
+    lengths-ok-requires
+    returns-2
+    slice-aggregate-try-entries
+    try-entries-requires
+    enum-told
+    returns-3
+    put-lines-requires
+    enum-known-refusal
+    same-length
+    returns-4
+    returns-5)

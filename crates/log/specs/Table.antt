@@ -1,0 +1,22 @@
+-- The event table: a slot of ten bytes for each event of each station, its value in two bytes, high byte first, and then its clock.
+use mathlib.Core.Path.{_≡_}
+use Prim.Native.Nat.{ℕ, _+_, _*_, _≤_, _<_}
+use mathlib.Core.List.{List}
+use lib.ListN.{getD, take, drop}
+use Rattle.model.specs.Frames.{word}
+use Rattle.model.specs.Computation.{Computation, stations, count, clock, value}
+
+-- Where event k of station j stands; at k = 0 stand the first value and the empty clock.
+abbrev pub slot : ℕ → ℕ → ℕ
+slot j k = (j * 128 + k) * 10
+
+-- The table holds the events of K.
+pub record Table (K : Computation) (t : List ℕ) : Type 0 where
+  pub values : (j k : ℕ) → j < stations K → k ≤ count K j → word (drop (slot j k) t) ≡ value K j k
+  pub clocks : (j k : ℕ) → j < stations K → k ≤ count K j → take (stations K) (drop (slot j k + 2) t) ≡ clock K j k
+
+-- K has n stations, counts has the number of events of each, and the table holds them.
+pub record Stored (K : Computation) (n : ℕ) (counts t : List ℕ) : Type 0 where
+  pub size : stations K ≡ n
+  pub each : (j : ℕ) → getD counts j 0 ≡ count K j
+  pub table : Table K t

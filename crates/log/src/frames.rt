@@ -1,0 +1,120 @@
+// The frames of a frame list.
+use crate::Outcome;
+use crate::Position;
+use crate::Step;
+use crate::Turn;
+use crate::admit;
+use crate::bytes::wide;
+ghost use mathlib.Core.Path.{_≡_};
+ghost use Prim.Native.Nat.{_+_, _≤_, _<_};
+ghost use lib.ListN.{length};
+ghost use Rattle.model.specs.Frames.{framesOf, logOf};
+ghost use Rattle.wire.specs.Put.{putOf};
+ghost use Rattle.log.specs.Entries.{formed, Formed, entries, Partly, Entered, Tried};
+
+// Is each length from 1 to 99, and no frame past the end?
+pub(crate) fn lengths_ok(list: &[u8]) -> bool
+    ensures { λ r. ⌜ r ≡ formed (framesOf (now (list .entry))) ⌝ }
+{
+    let mut at = 0;
+    while at < list.len() {
+        let k = wide(list[at]);
+        if k < 1 {
+            return false;
+        }
+        if 99 < k {
+            return false;
+        }
+        if list.len() - at <= k {
+            return false;
+        }
+        at = at + 1 + k;
+    }
+    true
+}
+
+// Tries the frame of the list that stands at p.
+fn try_entry(list: &[u8], p: Position, table: &mut [u8]) -> Turn
+    requires { ⌜ Partly (now list) p (now table) ⌝ }
+    requires { ⌜ (p .length < length (now list)) × (length (now list) ≤ 4096) × (length (now table) ≡ 10240) ⌝ }
+    ensures { λ r. ⌜ Entered (r .step) (now (list .entry)) p (r .position) (now (table .exit)) ⌝ }
+{
+    let at = p.length;
+    let k = wide(list[at]);
+    let start = at + 1;
+    let end = start + k;
+    let s = p.state;
+    let tried = admit(s, &list[start..end], table);
+    let step = tried.step;
+    match step {
+        Step::Next => {
+            let state = tried.state;
+            let after = Position {
+                at: end,
+                line: p.line + 1,
+                length: end,
+                state: state,
+            };
+            Turn {
+                step: Step::Next,
+                position: after,
+            }
+        }
+        Step::Faulty(fault) => Turn {
+            step: Step::Faulty(fault),
+            position: p,
+        },
+    }
+}
+
+// Tries all frames of a list.
+pub(crate) fn try_entries(list: &[u8], table: &mut [u8]) -> Outcome
+    requires { ⌜ Formed (now list) ⌝ }
+    requires { ⌜ (length (now list) ≤ 4096) × (length (now table) ≡ 10240) ⌝ }
+    ensures { λ r. ⌜ Tried r (now (list .entry)) ⌝ }
+{
+    let mut p = Position::first();
+    while p.length < list.len() {
+        let turn = try_entry(list, p, table);
+        let step = turn.step;
+        match step {
+            Step::Next => {
+                let next = turn.position;
+                p = next;
+            }
+            Step::Faulty(fault) => {
+                return Outcome::Refused(model::Refusal {
+                    fault: fault,
+                    line: p.line,
+                });
+            }
+        }
+    }
+    let s = p.state;
+    if s.stations == 0 {
+        return Outcome::Refused(model::Refusal {
+            fault: model::Fault::Kind,
+            line: 1,
+        });
+    }
+    Outcome::Accepted
+}
+
+// Writes the lines of all frames of a list; hands back where they end.
+pub(crate) fn put_lines(list: &[u8], out: &mut [u8]) -> usize
+    requires { ⌜ Formed (now list) ⌝ }
+    requires { ⌜ length (logOf (entries (now list))) ≤ length (now out) ⌝ }
+    ensures { λ r. ⌜ r ≡ length (logOf (entries (now (list .entry)))) ⌝ }
+    ensures { λ _. ⌜ now (out .exit) ≡ putOf (now (out .entry)) 0 (logOf (entries (now (list .entry)))) ⌝ }
+{
+    let mut from = 0;
+    let mut end = 0;
+    while from < list.len() {
+        let k = wide(list[from]);
+        let a = from + 1;
+        let e = a + k;
+        end = wire::put_line(&list[a..e], out, end);
+        from = e;
+    }
+    end
+}

@@ -1,0 +1,112 @@
+// The lines of a log.
+use crate::Loaded;
+use crate::Outcome;
+use crate::Position;
+use crate::Step;
+use crate::Turn;
+use crate::admit;
+ghost use mathlib.Core.Path.{_≡_};
+ghost use mathlib.Core.List.{_∷_};
+ghost use Prim.Native.Nat.{_+_, _≤_, _<_};
+ghost use lib.ListN.{length};
+ghost use Rattle.wire.specs.Put.{putOf};
+ghost use Rattle.log.specs.State.{Bounded};
+ghost use Rattle.log.specs.Loaded.{Tries, Within, Reads, Loads};
+
+// Puts a frame's length and the frame into the list from `at` on.
+fn put_entry(frame: &[u8], list: &mut [u8], at: usize)
+    requires { ⌜ (length (now frame) ≤ 99) × (at + length (now frame) + 1 ≤ length (now list)) ⌝ }
+    ensures { λ _. ⌜ now (list .exit) ≡ putOf (now (list .entry)) at (length (now (frame .entry)) ∷ now (frame .entry)) ⌝ }
+{
+    let n = frame.len();
+    list[at] = n as u8;
+    wire::put(frame, list, at + 1);
+}
+
+// Tries the frame at p; the next line starts at `next`.
+fn load_frame(p: Position, frame: &[u8], next: usize, list: &mut [u8], table: &mut [u8]) -> Turn
+    requires { ⌜ Bounded (p .state) ⌝ }
+    requires { ⌜ (1 ≤ length (now frame)) × (length (now frame) ≤ 99) × (p .length + length (now frame) + 1 ≤ length (now list)) × (p .line ≤ 8193) × (length (now table) ≡ 10240) ⌝ }
+    ensures { λ r. ⌜ Tries p (now (frame .entry)) next (now (list .entry)) (now (table .entry)) r (now (list .exit)) (now (table .exit)) ⌝ }
+{
+    let s = p.state;
+    let tried = admit(s, frame, table);
+    let step = tried.step;
+    match step {
+        Step::Next => {
+            let len = p.length;
+            put_entry(frame, list, len);
+            let state = tried.state;
+            let after = Position {
+                at: next,
+                line: p.line + 1,
+                length: len + frame.len() + 1,
+                state: state,
+            };
+            Turn {
+                step: Step::Next,
+                position: after,
+            }
+        }
+        Step::Faulty(fault) => Turn {
+            step: Step::Faulty(fault),
+            position: p,
+        },
+    }
+}
+
+// Reads the line at p.
+fn load_line(log: &[u8], p: Position, list: &mut [u8], table: &mut [u8]) -> Turn
+    requires { ⌜ Within (now log) p ⌝ }
+    requires { ⌜ (p .at < length (now log)) × (length (now log) ≤ 8192) × (length (now list) ≡ 4096) × (length (now table) ≡ 10240) ⌝ }
+    ensures { λ r. ⌜ Reads (now (log .entry)) p (now (list .entry)) (now (table .entry)) r (now (list .exit)) (now (table .exit)) ⌝ }
+{
+    let mut bytes = [0u8; 100];
+    let at = p.at;
+    match wire::walk_line(log, at, &mut bytes) {
+        wire::Walk::Frame(k, sum, next) => {
+            if sum != 0 {
+                return Turn {
+                    step: Step::Faulty(model::Fault::CheckByte),
+                    position: p,
+                };
+            }
+            let n = k - 1;
+            load_frame(p, &bytes[..n], next, list, table)
+        }
+        wire::Walk::Malformed => Turn {
+            step: Step::Faulty(model::Fault::LineForm),
+            position: p,
+        },
+    }
+}
+
+// Reads the lines of a log that is not too long.
+pub(crate) fn load_lines(log: &[u8], list: &mut [u8], table: &mut [u8]) -> Loaded
+    requires { ⌜ (length (now log) ≤ 8192) × (length (now list) ≡ 4096) × (length (now table) ≡ 10240) ⌝ }
+    ensures { λ r. ⌜ Loads (r .outcome) (now (log .entry)) (r .state) (r .length) (now (list .exit)) (now (table .exit)) ⌝ }
+{
+    let mut p = Position::first();
+    while p.at < log.len() {
+        let turn = load_line(log, p, list, table);
+        let step = turn.step;
+        match step {
+            Step::Next => {
+                let next = turn.position;
+                p = next;
+            }
+            Step::Faulty(fault) => {
+                return Loaded::refused(fault, p.line);
+            }
+        }
+    }
+    let s = p.state;
+    if s.stations == 0 {
+        return Loaded::refused(model::Fault::Kind, 1);
+    }
+    Loaded {
+        outcome: Outcome::Accepted,
+        state: s,
+        length: p.length,
+    }
+}
