@@ -1,0 +1,6 @@
+-- Laws that the proofs share.
+pub mod Halves
+pub mod Run
+pub mod Starts
+pub mod Turn
+pub mod FromLaid

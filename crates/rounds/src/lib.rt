@@ -1,0 +1,198 @@
+// The rounds of an intersection: one round, one start, and all starts of a pair of structures.
+ghost use mathlib.Core.Path.{_≡_};
+ghost use mathlib.Core.List.{List};
+ghost use Prim.Native.Nat.{ℕ, suc, _+_, _*_, _≤_, _<_};
+ghost use lib.ListN.{length, getD, take, drop, replicate};
+ghost use Rattle.model.specs.Lists.{total};
+ghost use Rattle.model.specs.Basis.{round, run};
+ghost use Rattle.structure.specs.Layout.{placed, cells};
+ghost use Rattle.structure.specs.Stations.{Stations};
+ghost use Rattle.rounds.specs.Said.{changes, roundCut, roundChanged, startReached, startOutcome};
+ghost use Rattle.rounds.specs.declared.Outcome.the-variants.{Lost};
+ghost use Rattle.rounds.specs.Pair.{Began, Starts, Intersected, Written};
+ghost use Rattle.model.specs.Computation.{Computation};
+
+// How a round ended.
+pub enum Round {
+    Raised { changed: bool },
+    Lost,
+}
+
+// A round's outcome, and beside it the cut that it raised to.
+pub struct RoundResult {
+    pub outcome: Round,
+    pub cut: [u8; 8],
+}
+
+// How a start ended.
+pub enum Outcome {
+    Raised,
+    Lost,
+}
+
+// A start's outcome, the cut that it raised to, and its rounds.
+pub struct Start {
+    pub outcome: Outcome,
+    pub cut: [u8; 8],
+    pub rounds: u32,
+}
+
+// One round: raised in the set at a, then in the set at b.
+pub fn one_round(
+    ws: &[u8],
+    a: usize,
+    b: usize,
+    n: usize,
+    counts: &[u8; 8],
+    offs: &[u8; 8],
+    cut: &[u8; 8],
+) -> RoundResult
+    requires { ⌜ Stations n (now counts) (now offs) ⌝ }
+    requires { ⌜ (a + cells n (take n (now counts)) ≤ length (now ws)) × (getD (now ws) a 0 ≡ 255 → ⊥) ⌝ }
+    requires { ⌜ (b + cells n (take n (now counts)) ≤ length (now ws)) × (getD (now ws) b 0 ≡ 255 → ⊥) ⌝ }
+    requires { ⌜ length (now cut) ≡ 8 ⌝ }
+    ensures { λ r. ⌜ ((bs bt : List ℕ) → roundCut n r ≡ round (placed n (now (counts .entry)) (now (ws .entry)) a bs) (placed n (now (counts .entry)) (now (ws .entry)) b bt) (take n (now (cut .entry)))) ⌝ }
+    ensures { λ r. ⌜ roundChanged (r .outcome) ≡ changes (take n (now (cut .entry))) (roundCut n r) ⌝ }
+    ensures { λ r. ⌜ (length (r .cut) ≡ 8) × (getD (r .cut) 0 0 ≡ 255 → ⊥) ⌝ }
+{
+    let mut middle = [0u8; 8];
+    structure::raise(ws, a, n, counts, offs, cut, &mut middle);
+    if middle[0] == structure::NONE {
+        return RoundResult {
+            outcome: Round::Lost,
+            cut: [0u8; 8],
+        };
+    }
+    let mut last = [0u8; 8];
+    structure::raise(ws, b, n, counts, offs, &middle, &mut last);
+    if last[0] == structure::NONE {
+        return RoundResult {
+            outcome: Round::Lost,
+            cut: [0u8; 8],
+        };
+    }
+    let same = structure::contained(&last, 0, cut, 0, n);
+    RoundResult {
+        outcome: Round::Raised { changed: !same },
+        cut: last,
+    }
+}
+
+// A start that came to none, after so many rounds.
+pub fn lost(begun: u32) -> Start
+    ensures { λ r. ⌜ r ≡ record { outcome = Lost; cut = replicate 8 0; rounds = begun } ⌝ }
+{
+    Start {
+        outcome: Outcome::Lost,
+        cut: [0u8; 8],
+        rounds: begun,
+    }
+}
+
+// One start: rounds until one comes to none or changes nothing, at most e + 1.
+pub fn one_start(
+    ws: &[u8],
+    a: usize,
+    b: usize,
+    n: usize,
+    e: usize,
+    counts: &[u8; 8],
+    offs: &[u8; 8],
+    start: [u8; 8],
+) -> Start
+    requires { ⌜ Stations n (now counts) (now offs) ⌝ }
+    requires { ⌜ (a + cells n (take n (now counts)) ≤ length (now ws)) × (getD (now ws) a 0 ≡ 255 → ⊥) ⌝ }
+    requires { ⌜ (b + cells n (take n (now counts)) ≤ length (now ws)) × (getD (now ws) b 0 ≡ 255 → ⊥) ⌝ }
+    requires { ⌜ e ≤ 127 ⌝ }
+    ensures { λ r. ⌜ ((bs bt : List ℕ) → startOutcome n r ≡ run (placed n (now (counts .entry)) (now (ws .entry)) a bs) (placed n (now (counts .entry)) (now (ws .entry)) b bt) (suc e) (take n start)) ⌝ }
+    ensures { λ r. ⌜ (r .rounds ≤ e + 1) × (length (r .cut) ≡ 8) × (getD (r .cut) 0 0 ≡ 255 → ⊥) ⌝ }
+{
+    let mut cut = start;
+    let mut rounds: u32 = 0;
+    let most = e as u32;
+    while rounds <= most {
+        let r = one_round(ws, a, b, n, counts, offs, &cut);
+        rounds += 1;
+        let outcome = r.outcome;
+        let Round::Raised { changed } = outcome else {
+            return lost(rounds);
+        };
+        cut = r.cut;
+        if !changed {
+            return Start {
+                outcome: Outcome::Raised,
+                cut: cut,
+                rounds: rounds,
+            };
+        }
+    }
+    lost(rounds)
+}
+
+// The row of a start: its cut, or none.
+pub fn put_start(ws: &mut [u8], at: usize, n: usize, r: Start)
+    requires { ⌜ (0 < n) × (n ≤ 8) × (at + n ≤ length (now ws)) × (length (r .cut) ≡ 8) × (getD (r .cut) 0 0 ≡ 255 → ⊥) ⌝ }
+    ensures { λ _. ⌜ Written n at (now (ws .entry)) (now (ws .exit)) (startReached n (r .outcome) (r .cut)) ⌝ }
+{
+    let outcome = r.outcome;
+    let cut = r.cut;
+    match outcome {
+        Outcome::Raised => structure::put_cut(ws, at, n, &cut),
+        Outcome::Lost => structure::put_cut(ws, at, n, &[structure::NONE; 8]),
+    }
+}
+
+// Start i of a pair: its row goes to its place, and its rounds are handed back.
+pub fn write_start(
+    ws: &mut [u8],
+    a: usize,
+    b: usize,
+    out: usize,
+    n: usize,
+    e: usize,
+    counts: &[u8; 8],
+    offs: &[u8; 8],
+    starts: &[u8],
+    i: usize,
+) -> u32
+    requires { ⌜ Stations n (now counts) (now offs) ⌝ }
+    requires { ⌜ (a + cells n (take n (now counts)) ≤ length (now ws)) × (getD (now ws) a 0 ≡ 255 → ⊥) ⌝ }
+    requires { ⌜ (b + cells n (take n (now counts)) ≤ length (now ws)) × (getD (now ws) b 0 ≡ 255 → ⊥) ⌝ }
+    requires { ⌜ (e ≤ 127) × (i ≤ e) × (out + (e + 1) * n ≤ length (now ws)) × ((e + 1) * n ≤ length (now starts)) ⌝ }
+    ensures { λ r. ⌜ ((bs bt : List ℕ) → Began (placed n (now (counts .entry)) (now (ws .entry)) a bs) (placed n (now (counts .entry)) (now (ws .entry)) b bt) e n (take n (drop (i * n) (now (starts .entry)))) (out + i * n) (now (ws .entry)) (now (ws .exit)) r) ⌝ }
+    ensures { λ r. ⌜ r ≤ e + 1 ⌝ }
+{
+    let k = i * n;
+    let start = structure::cut_at(starts, k, n);
+    let r = one_start(ws, a, b, n, e, counts, offs, start);
+    put_start(ws, out + k, n, r);
+    r.rounds
+}
+
+// All starts of a pair: the empty cut and each event's clock.
+pub fn intersect(
+    ws: &mut [u8],
+    a: usize,
+    b: usize,
+    out: usize,
+    n: usize,
+    e: usize,
+    counts: &[u8; 8],
+    offs: &[u8; 8],
+    starts: &[u8],
+) -> u32
+    requires { ⌜ Stations n (now counts) (now offs) ⌝ }
+    requires { ⌜ (total (take n (now counts)) ≡ e) × (e ≤ 127) ⌝ }
+    requires { ⌜ (a + (e + 1) * n ≤ out) × (getD (now ws) a 0 ≡ 255 → ⊥) × (b + (e + 1) * n ≤ out) × (getD (now ws) b 0 ≡ 255 → ⊥) ⌝ }
+    requires { ⌜ (out + (e + 1) * n ≤ length (now ws)) × ((e + 1) * n ≤ length (now starts)) ⌝ }
+    ensures { λ r. ⌜ ((K : Computation) (bs bt : List ℕ) → Starts K n e (now (counts .entry)) (now (starts .entry)) → Intersected K (placed n (now (counts .entry)) (now (ws .entry)) a bs) (placed n (now (counts .entry)) (now (ws .entry)) b bt) n (drop out (now (ws .exit))) r) ⌝ }
+    ensures { λ r. ⌜ (r ≤ (e + 1) * (e + 1)) × (take out (now (ws .exit)) ≡ take out (now (ws .entry))) × (drop (out + (e + 1) * n) (now (ws .exit)) ≡ drop (out + (e + 1) * n) (now (ws .entry))) ⌝ }
+{
+    let mut rounds: u32 = 0;
+    let mut i = 0;
+    while i <= e {
+        rounds += write_start(ws, a, b, out, n, e, counts, offs, starts, i);
+        i += 1;
+    }
+    rounds
+}

@@ -1,0 +1,93 @@
+-- Where the row of an event stands: behind the least cut, the rows of the stations before, and those of the events before.
+use mathlib.Core.Path.{_≡_, refl, ap, _∙_}
+use Prim.Native.Nat.{ℕ, zero, suc, _+_, _*_, _≤_, _<_}
+use native.Mathlib.Nat.{suc-add, zero-add, suc-mul, zero-mul, add-mul, mul-le-mul-right, le-of-suc-le-suc}
+use native.Mathlib.Decide.{decLt}
+use native.Mathlib.Omega.{arith}
+use mathlib.Core.List.{List, [], _∷_, _++_}
+use mathlib.Core.Option.{Option, none}
+use lib.ListN.{length, getD, take, drop, List·getD-eq-default}
+use lib.Seq.{drop-drop}
+use Rattle.model.specs.Lists.{sum, total}
+use Rattle.model.specs.Structure.{row}
+use Rattle.structure.specs.Layout.{decoded, rowsAt, stationsAt, structureAt, cells}
+
+pub rows-at : (n m : ℕ) (w : List ℕ) (k : ℕ) → k < m → getD (rowsAt n m w) k none ≡ decoded (take n (drop (k * n) w))
+unfolding rowsAt
+rows-at n zero w k h = absurd (omega arith)
+rows-at n (suc m) w zero h = rw zero-mul
+rows-at n (suc m) w (suc k) h =
+    let s : n + k * n ≡ suc k * n = omega (arith, suc-mul k n) in
+    rows-at n m (drop n w) k (le-of-suc-le-suc h) ∙ ap (λ (l : List ℕ). decoded (take n l)) (drop-drop (k * n) n w ∙ ap (λ (x : ℕ). drop x w) s)
+
+-- Rows behind rows.
+pub rows-add : (n m k : ℕ) (w : List ℕ) → rowsAt n (m + k) w ≡ rowsAt n m w ++ rowsAt n k (drop (m * n) w)
+unfolding rowsAt
+rows-add n zero k w = rw (zero-add k, zero-mul n)
+rows-add n (suc m) k w =
+    let s : n + m * n ≡ suc m * n = omega (arith, suc-mul m n) in
+    rw (suc-add m k, ← s, ← drop-drop (m * n) n w) (ap (λ (l : List (Option (List ℕ))). decoded (take n w) ∷ l) (rows-add n m k (drop n w)))
+
+pub length-rows : (n m : ℕ) (w : List ℕ) → length (rowsAt n m w) ≡ m
+unfolding rowsAt
+length-rows n zero w = refl
+length-rows n (suc m) w = ap suc (length-rows n m (drop n w))
+
+station-at : (n : ℕ) (counts w : List ℕ) (j : ℕ) → j < length counts
+    → getD (stationsAt n counts w) j [] ≡ rowsAt n (getD counts j 0) (drop (total (take j counts) * n) w)
+unfolding stationsAt sum
+station-at n [] w j h = absurd (omega arith)
+station-at n (m ∷ counts) w zero h = rw zero-mul
+station-at n (m ∷ counts) w (suc j) h =
+    station-at n counts (drop (m * n) w) j (le-of-suc-le-suc h)
+    ∙ ap (rowsAt n (getD counts j 0)) (drop-drop (total (take j counts) * n) (m * n) w ∙ rw (add-mul m (total (take j counts)) n))
+
+length-stations : (n : ℕ) (counts w : List ℕ) → length (stationsAt n counts w) ≡ length counts
+unfolding stationsAt
+length-stations n [] w = refl
+length-stations n (m ∷ counts) w = ap suc (length-stations n counts (drop (m * n) w))
+
+-- The row of event k of station j, and past the station's events.
+module _ (n : ℕ) (counts w bs : List ℕ) (j : ℕ) where
+  pub row-place : (k : ℕ) → (k ≡ 0 → ⊥) → k ≤ getD counts j 0
+      → row (structureAt n counts w bs) j k ≡ decoded (take n (drop ((total (take j counts) + k) * n) w))
+  unfolding row
+  row-place zero f l = absurd (f refl)
+  row-place (suc k) f l = there (decLt j (length counts))
+    where
+      t : ℕ
+      t = total (take j counts)
+
+      s : n + (t * n + k * n) ≡ (t + suc k) * n
+      s = omega (arith, suc-mul k n, add-mul t (suc k) n)
+
+      there : Dec (j < length counts) → getD (getD (stationsAt n counts (drop n w)) j []) k none ≡ decoded (take n (drop ((t + suc k) * n) w))
+      there (no g) = absurd (omega (arith, List·getD-eq-default counts 0 {n = j} (omega arith)))
+      there (yes h) =
+          ap (λ (r : List (Option (List ℕ))). getD r k none) (station-at n counts (drop n w) j h)
+          ∙ rows-at n (getD counts j 0) (drop (t * n) (drop n w)) k l
+          ∙ ap (λ (l : List ℕ). decoded (take n l)) (drop-drop (k * n) (t * n) (drop n w) ∙ drop-drop (t * n + k * n) n w ∙ ap (λ (x : ℕ). drop x w) s)
+
+  pub row-past : (k : ℕ) → getD counts j 0 < k → row (structureAt n counts w bs) j k ≡ none
+  unfolding row
+  row-past zero l = absurd (omega arith)
+  row-past (suc k) l = there (decLt j (length counts))
+    where
+      there : Dec (j < length counts) → getD (getD (stationsAt n counts (drop n w)) j []) k none ≡ none
+      there (no g) = ap (λ (r : List (Option (List ℕ))). getD r k none) (List·getD-eq-default (stationsAt n counts (drop n w)) [] (rw length-stations (omega arith)))
+      there (yes h) =
+          let d = drop (total (take j counts) * n) (drop n w) in
+          ap (λ (r : List (Option (List ℕ))). getD r k none) (station-at n counts (drop n w) j h)
+          ∙ List·getD-eq-default (rowsAt n (getD counts j 0) d) none (rw length-rows (le-of-suc-le-suc l))
+
+-- A station's events are among all.
+pub total-take : (counts : List ℕ) (j : ℕ) → total (take j counts) + getD counts j 0 ≤ total counts
+unfolding sum
+total-take [] zero = omega arith
+total-take [] (suc j) = omega arith
+total-take (m ∷ counts) zero = omega arith
+total-take (m ∷ counts) (suc j) = omega (arith, total-take counts j)
+
+-- The n cells of row k lie within.
+pub row-room : (n e at k l : ℕ) → k ≤ e → at + suc e * n ≤ l → at + k * n + n ≤ l
+row-room n e at k l h r = omega (arith, mul-le-mul-right n h, suc-mul e n)

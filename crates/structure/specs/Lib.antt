@@ -1,0 +1,4 @@
+pub mod Layout
+pub mod Stations
+pub mod Added
+pub mod Laid
