@@ -1,0 +1,106 @@
+-- The two rules as one: normal forms, sizes, bases and rounds under a sign.
+use mathlib.Core.Path.{_≡_, refl}
+use Prim.Native.Nat.{ℕ, suc, _+_, _*_, _≤_}
+use native.Mathlib.Omega.{arith}
+use native.Mathlib.Nat.{mul-le-mul}
+use mathlib.Core.Bool.{Bool, true, false}
+use Rattle.model.specs.Formula.{Formula, sound, tokens, signs}
+use Rattle.model.specs.Formula.Formula.{not, and}
+use Rattle.model.specs.Computation.{Computation, eventCount}
+use Rattle.model.specs.Rules.{Normal, asTrue, asFalse}
+use Rattle.model.specs.Size.{width, held, narrow}
+use Rattle.model.specs.Basis.{basis}
+use Rattle.model.specs.Rounds.{rounds}
+use Rattle.lattice.proofs.Tests.{and-true}
+use Rattle.lattice.proofs.Size.{narrow-both, narrow-either, narrow-possible, narrow-impossible, width-pos}
+use Rattle.lattice.proofs.Held.{held-both, held-either, held-possible, held-impossible}
+use Rattle.lattice.proofs.Weights.{signsOf, weight-true, weight-false}
+use Rattle.lattice.proofs.Rounds.{rounds-normal, square}
+use Rattle.basis.specs.Signed.{normal, two, modal, flip, under, joinedForm, joinedBasis, joinedRounds, liftedForm, liftedBasis}
+use Rattle.basis.proofs.Tokens.{signs-tokens}
+
+pub normal-not : (s : Bool) (f : Formula) → normal s (not f) ≡ normal (flip s) f
+unfolding asTrue asFalse
+normal-not true f = refl
+normal-not false f = refl
+
+pub normal-two : (s b : Bool) (f g : Formula) → normal s (two b f g) ≡ joinedForm (under s b) (normal s f) (normal s g)
+unfolding asTrue asFalse
+normal-two true true f g = refl
+normal-two true false f g = refl
+normal-two false true f g = refl
+normal-two false false f g = refl
+
+pub normal-modal : (s b : Bool) (f : Formula) → normal s (modal b f) ≡ liftedForm (under s b) (normal b f)
+unfolding asTrue asFalse
+normal-modal true true f = refl
+normal-modal true false f = refl
+normal-modal false true f = refl
+normal-modal false false f = refl
+
+-- SIZES
+
+pub narrow-joined : (c : Bool) (p q : Normal) → narrow (joinedForm c p q) ≡ true → (narrow p ≡ true) × (narrow q ≡ true)
+narrow-joined true p q h = let r = narrow-both p q h in (r .2, r .3)
+narrow-joined false p q h = let r = narrow-either p q h in (r .2, r .3)
+
+pub held-joined : (c : Bool) (p q : Normal) → (held p ≤ held (joinedForm c p q)) × (width p + held q ≤ held (joinedForm c p q))
+held-joined true p q = let r = held-both p q in (r .0, r .1)
+held-joined false p q = let r = held-either p q in (r .0, r .1)
+
+pub narrow-lifted : (c : Bool) (p : Normal) → narrow (liftedForm c p) ≡ true → (width p ≤ 16) × (narrow p ≡ true)
+narrow-lifted true p h = narrow-possible p h
+narrow-lifted false p h = narrow-impossible p h
+
+pub held-lifted : (c : Bool) (p : Normal) → (held p ≤ held (liftedForm c p)) × (width p ≤ held (liftedForm c p)) × (1 ≤ held (liftedForm c p))
+held-lifted true p = let r = held-possible p in (r .0, omega (arith, r .1), omega (arith, r .1, width-pos p))
+held-lifted false p = let r = held-impossible p in (r .0, omega (arith, r .1), omega (arith, r .1, width-pos p))
+
+pub sound-two : (n : ℕ) (b : Bool) (f g : Formula) → sound n (two b f g) ≡ true → (sound n f ≡ true) × (sound n g ≡ true)
+unfolding sound
+sound-two n true f g h = and-true (sound n f) (sound n g) .0 h
+sound-two n false f g h = and-true (sound n f) (sound n g) .0 h
+
+pub sound-modal : (n : ℕ) (b : Bool) (f : Formula) → sound n (modal b f) ≡ true → sound n f ≡ true
+unfolding sound
+sound-modal n true f h = h
+sound-modal n false f h = h
+
+pub sound-not : (n : ℕ) (f : Formula) → sound n (not f) ≡ true → sound n f ≡ true
+unfolding sound
+sound-not n f h = h
+
+-- BASES AND ROUNDS
+
+pub basis-joined : (c : Bool) (K : Computation) (p q : Normal) → basis K (joinedForm c p q) ≡ joinedBasis c K (basis K p) (basis K q)
+unfolding basis
+basis-joined true K p q = refl
+basis-joined false K p q = refl
+
+pub rounds-joined : (c : Bool) (K : Computation) (p q : Normal)
+    → rounds K (joinedForm c p q) ≡ rounds K p + rounds K q + joinedRounds c K (basis K p) (basis K q)
+unfolding rounds
+rounds-joined true K p q = refl
+rounds-joined false K p q = omega arith
+
+pub basis-lifted : (c : Bool) (K : Computation) (p : Normal) → basis K (liftedForm c p) ≡ liftedBasis c K (basis K p)
+unfolding basis
+basis-lifted true K p = refl
+basis-lifted false K p = refl
+
+pub rounds-lifted : (c : Bool) (K : Computation) (p : Normal) → rounds K (liftedForm c p) ≡ rounds K p
+unfolding rounds
+rounds-lifted true K p = refl
+rounds-lifted false K p = refl
+
+signs-normal : (s : Bool) (f : Formula) → signsOf (normal s f) ≡ signs f
+signs-normal true f = weight-true 0 1 f
+signs-normal false f = weight-false 0 1 f
+
+-- The rounds of a question of at most 32 tokens.
+pub rounds-small : (K : Computation) (s : Bool) (f : Formula) → narrow (normal s f) ≡ true → tokens f ≤ 32 → eventCount K ≤ 127 → rounds K (normal s f) ≤ 16777216
+rounds-small K s f h t e =
+    let a : square K ≤ 128 * 128 = mul-le-mul {n₁ = suc (eventCount K)} {m₁ = suc (eventCount K)} {n₂ = 128} {m₂ = 128} (omega arith) (omega arith) in
+    let c : 16 * signsOf (normal s f) ≤ 512 = omega (arith, signs-normal s f, signs-tokens f) in
+    let b : 16 * signsOf (normal s f) * square K ≤ 512 * 16384 = mul-le-mul {n₁ = 16 * signsOf (normal s f)} {m₁ = square K} {n₂ = 512} {m₂ = 16384} c a in
+    omega (arith, rounds-normal K (normal s f) h, b)

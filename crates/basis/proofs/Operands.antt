@@ -1,0 +1,289 @@
+-- What the calls of the two rules ask and leave, token by token; q′ is what stands behind the token.
+use mathlib.Core.Path.{_≡_, refl, sym, ap, ap₂, subst, _∙_}
+use Prim.Native.Nat.{ℕ, suc, _+_, _*_, _≤_, _<_}
+use native.Mathlib.Omega.{arith}
+use native.Mathlib.Numerals.{add-one}
+use native.Mathlib.Nat.{div-add-mod', mul-le-mul-right, zero-mul, one-mul}
+use mathlib.Core.List.{List, [], _++_}
+use mathlib.Core.Bool.{Bool, true, false, _&&_}
+use lib.Dec.{ltb, leb}
+use lib.ListN.{length, getD, take, drop, replicate, length-drop, length-append}
+use lib.Seq.{getD-take}
+use borrow.Author.Tests.{ltb-true}
+use Rattle.model.specs.Lists.{total}
+use Rattle.model.specs.Formula.{Formula, prefix, sound, tokens}
+use Rattle.model.specs.Formula.Formula.{inRange, not}
+use Rattle.model.specs.Computation.{Computation, full}
+use Rattle.model.specs.Rules.{Normal, asTrue, asFalse, passes}
+use Rattle.model.specs.Size.{width, held, narrow}
+use Rattle.model.specs.Structure.{build}
+use Rattle.model.specs.Basis.{basis, raiseAtom}
+use Rattle.model.specs.Rounds.{rounds}
+use Rattle.structure.specs.Layout.{standing, barCells}
+use Rattle.structure.specs.Stations.{Stations}
+use Rattle.structure.specs.Laid.{Laid}
+use Rattle.lattice.proofs.Tests.{and-true}
+use Rattle.lattice.proofs.Size.{basis-width, narrow-to}
+use Rattle.lattice.proofs.Held.{width-held}
+use Rattle.steps.specs.Rows.{rowAt}
+use Rattle.steps.proofs.Parts.{row-zero}
+use Rattle.steps.proofs.Built.{first-row, start-there}
+use Rattle.steps.proofs.Atoms.{starts-fit}
+use Rattle.structure.proofs.Standing.{standing-add, length-standing}
+use Rattle.modal.specs.Post.{Least, Possible, Impossible}
+use Rattle.basis.specs.Signed.{normal, two, twoToken, modalToken, flip, under, joinedForm, liftedForm, liftedBasis}
+use Rattle.basis.specs.Contract.{Ready, Made, Combined, Lifted}
+use Rattle.pairs.specs.Post.{Paired}
+use Rattle.basis.proofs.Tokens as tokens
+use Rattle.basis.proofs.Normals as normals
+
+-- STEPS
+
+pub lifted-wide : (n e k c : ℕ) (starts w w₂ b b₂ : List ℕ) (t : Bool) → t ≡ true → c ≡ k → Possible n e k starts w w₂ b b₂ → Lifted t n e k starts w w₂ b b₂ c
+lifted-wide n e k c starts w w₂ b b₂ t f g d = rw (f, g) (record { stands = d .stands; least = d .least })
+
+pub lifted-barred : (n e k c : ℕ) (starts w w₂ b b₂ : List ℕ) (t : Bool) → t ≡ false → Impossible n e k c starts w w₂ b b₂ → Lifted t n e k starts w w₂ b b₂ c
+lifted-barred n e k c starts w w₂ b b₂ t f d = rw f (record { stands = d .stands; least = d .least })
+
+pub combined-pairs : (n e l r u v : ℕ) (counts starts w w₂ b b₂ : List ℕ) (c j sum : ℕ) (t : Bool) → t ≡ true → sum ≡ u + v + j
+    → Paired n e l r counts starts w w₂ b b₂ c j → Combined t n e l r u v counts starts w w₂ b b₂ c sum
+combined-pairs n e l r u v counts starts w w₂ b b₂ c j sum t f g d = rw f (record { joined-rounds = j; joined = record { stands = d .stands; summed = d .summed; least = d .least; small = d .small }; summed = g })
+
+-- One basis behind the other: nothing is moved.
+pub combined-all : (n e l r u v : ℕ) (counts starts w b : List ℕ) (c sum : ℕ) (t : Bool) → t ≡ false → c ≡ l + r → sum ≡ u + v
+    → Least ((e + 1) * n) (l + r) w → Combined t n e l r u v counts starts w w b b c sum
+combined-all n e l r u v counts starts w b c sum t f g h least = rw (f, g) (record {
+  joined-rounds = 0;
+  joined = record {
+    stands = λ K offs values laid.
+        let x : suc (total (full K)) * n ≡ (e + 1) * n = ap (λ (y : ℕ). suc y * n) (laid .counted) ∙ ap (λ (y : ℕ). y * n) (sym (add-one e)) in
+        standing-add n (full K) l r w b ∙ ap (λ (y : ℕ). standing n (full K) l w b ++ standing n (full K) r (drop (l * y) w) (drop (l * barCells n) b)) x;
+    summed = λ K offs values laid. refl;
+    least = least;
+    small = omega arith;
+  };
+  summed = omega arith;
+})
+
+-- A COMPUTATION LAID OUT
+
+module _ (s : Bool) (n e : ℕ) (q counts offs starts values : List ℕ) (mw mb : ℕ) (r : Ready s n e q counts offs starts values mw mb) where
+  pub question-some : 0 < length q
+  question-some = omega (arith, ap length (r .reads), length-append (prefix (r .formula)) (r .rest), tokens.prefix-some (r .formula))
+
+  pub starts-room : (e + 1) * n ≤ length starts
+  starts-room = starts-fit (r .computation) n e counts offs starts values (r .laid) 0 (r .laid .some-station)
+
+  pub first-start : rowAt n 0 starts ≡ replicate n 0
+  first-start = first-row (r .computation) n e counts offs starts values (r .laid)
+
+  pub first-cell : getD starts 0 0 ≡ 255 → ⊥
+  first-cell f =
+      start-there (r .computation) n e counts offs starts values (r .laid) 0 (omega arith)
+      (ap (λ (x : List ℕ). getD x 0 0) (row-zero n starts) ∙ getD-take n starts 0 0 (r .laid .some-station) ∙ f)
+
+  pub stations-are : Stations n counts offs
+  stations-are = record {
+    some-station = r .laid .some-station;
+    few-stations = r .laid .few-stations;
+    offs-are = λ j h. r .laid .offs-are j h ∙ ap (λ (x : List ℕ). total (take j x)) (sym (r .laid .counts-are));
+  }
+
+  pub total-is : total (take n counts) ≡ e
+  total-is = ap total (r .laid .counts-are) ∙ r .laid .counted
+
+  pub token-known : (0 < getD q 0 0) × (getD q 0 0 < 7)
+  token-known = tokens.known-token q (r .formula) (r .rest) (r .reads)
+
+  -- ATOMS
+
+  pub atom-long : getD q 0 0 ≡ 1 → 6 ≤ length q
+  unfolding prefix
+  atom-long k =
+      let h = tokens.at-atom q (r .formula) (r .rest) (r .reads) k in
+      let l : length q ≡ length (prefix (inRange (h .0) (h .1) (h .2)) ++ r .rest) = ap length (r .reads) ∙ ap (λ (u : Formula). length (prefix u ++ r .rest)) (h .3) in
+      omega arith
+
+  pub atom-station : getD q 0 0 ≡ 1 → getD q 1 0 < n
+  unfolding prefix sound
+  atom-station k =
+      let h = tokens.at-atom q (r .formula) (r .rest) (r .reads) k in
+      let x : getD q 1 0 ≡ h .0 = ap (λ (l : List ℕ). getD l 1 0) (r .reads) ∙ ap (λ (u : Formula). getD (prefix u ++ r .rest) 1 0) (h .3) in
+      let g : ltb (h .0) n && leb (h .1) (h .2) ≡ true = sym (ap (sound n) (h .3)) ∙ r .known in
+      omega (arith, ltb-true (h .0) n (and-true (ltb (h .0) n) (leb (h .1) (h .2)) .0 g .0))
+
+  pub atom-cells : (e + 1) * n ≤ mw
+  atom-cells = omega (arith, mul-le-mul-right ((e + 1) * n) (let o : 1 ≤ held (normal s (r .formula)) = omega (arith, width-held (normal s (r .formula)), Rattle.lattice.proofs.Size.width-pos (normal s (r .formula))) in o), r .cells-fit, one-mul ((e + 1) * n))
+
+  pub atom-bars : 16 * n ≤ mb
+  atom-bars = omega (arith, mul-le-mul-right (16 * n) (let o : 1 ≤ held (normal s (r .formula)) = omega (arith, width-held (normal s (r .formula)), Rattle.lattice.proofs.Size.width-pos (normal s (r .formula))) in o), r .bars-fit, one-mul (16 * n))
+
+  -- OPERANDS
+
+  module _ (q′ : List ℕ) (d : q′ ≡ drop 1 q) where
+    pub shorter : length q′ < length q
+    shorter = omega (arith, ap length d, length-drop 1 q, question-some)
+
+    pub ready-not : getD q 0 0 ≡ 2 → Ready (flip s) n e q′ counts offs starts values mw mb
+    ready-not k =
+        let h = tokens.behind-not q (r .formula) (r .rest) (r .reads) k in
+        let m : normal s (r .formula) ≡ normal (flip s) (h .0) = ap (normal s) (h .1) ∙ normals.normal-not s (h .0) in
+        record {
+          computation = r .computation;
+          laid = r .laid;
+          formula = h .0;
+          rest = r .rest;
+          reads = d ∙ h .2;
+          known = normals.sound-not n (h .0) (sym (ap (sound n) (h .1)) ∙ r .known);
+          slim = sym (ap narrow m) ∙ r .slim;
+          short = omega (arith, r .short, ap tokens (h .1), tokens.tokens-not (h .0));
+          cells-fit = subst (λ (p : Normal). held p * ((e + 1) * n) ≤ mw) m (r .cells-fit);
+          bars-fit = subst (λ (p : Normal). held p * (16 * n) ≤ mb) m (r .bars-fit);
+        }
+
+    pub ready-modal : (b : Bool) → getD q 0 0 ≡ modalToken b → Ready b n e q′ counts offs starts values mw mb
+    ready-modal b k =
+        let h = tokens.behind-modal q (r .formula) (r .rest) (r .reads) b k in
+        let m : normal s (r .formula) ≡ liftedForm (under s b) (normal b (h .0)) = ap (normal s) (h .1) ∙ normals.normal-modal s b (h .0) in
+        let g = normals.held-lifted (under s b) (normal b (h .0)) in
+        let x : held (liftedForm (under s b) (normal b (h .0))) * ((e + 1) * n) ≤ mw = subst (λ (p : Normal). held p * ((e + 1) * n) ≤ mw) m (r .cells-fit) in
+        let y : held (liftedForm (under s b) (normal b (h .0))) * (16 * n) ≤ mb = subst (λ (p : Normal). held p * (16 * n) ≤ mb) m (r .bars-fit) in
+        record {
+          computation = r .computation;
+          laid = r .laid;
+          formula = h .0;
+          rest = r .rest;
+          reads = d ∙ h .2;
+          known = normals.sound-modal n b (h .0) (sym (ap (sound n) (h .1)) ∙ r .known);
+          slim = normals.narrow-lifted (under s b) (normal b (h .0)) (sym (ap narrow m) ∙ r .slim) .1;
+          short = omega (arith, r .short, ap tokens (h .1), tokens.tokens-modal b (h .0));
+          cells-fit = omega (arith, mul-le-mul-right ((e + 1) * n) (g .0), x);
+          bars-fit = omega (arith, mul-le-mul-right (16 * n) (g .0), y);
+        }
+
+    pub ready-left : (b : Bool) → getD q 0 0 ≡ twoToken b → Ready s n e q′ counts offs starts values mw mb
+    ready-left b k =
+        let h = tokens.behind-two q (r .formula) (r .rest) (r .reads) b k in
+        let m : normal s (r .formula) ≡ joinedForm (under s b) (normal s (h .0)) (normal s (h .1)) = ap (normal s) (h .2) ∙ normals.normal-two s b (h .0) (h .1) in
+        let g = normals.held-joined (under s b) (normal s (h .0)) (normal s (h .1)) in
+        let x : held (joinedForm (under s b) (normal s (h .0)) (normal s (h .1))) * ((e + 1) * n) ≤ mw = subst (λ (p : Normal). held p * ((e + 1) * n) ≤ mw) m (r .cells-fit) in
+        let y : held (joinedForm (under s b) (normal s (h .0)) (normal s (h .1))) * (16 * n) ≤ mb = subst (λ (p : Normal). held p * (16 * n) ≤ mb) m (r .bars-fit) in
+        record {
+          computation = r .computation;
+          laid = r .laid;
+          formula = h .0;
+          rest = prefix (h .1) ++ r .rest;
+          reads = d ∙ h .3;
+          known = normals.sound-two n b (h .0) (h .1) (sym (ap (sound n) (h .2)) ∙ r .known) .0;
+          slim = normals.narrow-joined (under s b) (normal s (h .0)) (normal s (h .1)) (sym (ap narrow m) ∙ r .slim) .0;
+          short = omega (arith, r .short, ap tokens (h .2), tokens.tokens-two b (h .0) (h .1));
+          cells-fit = omega (arith, mul-le-mul-right ((e + 1) * n) (g .0), x);
+          bars-fit = omega (arith, mul-le-mul-right (16 * n) (g .0), y);
+        }
+
+-- WHAT A CALL LEAVES
+
+-- The numbers of a basis made.
+pub record Done (count used sum : ℕ) (p : Normal) (l : ℕ) : Type 0 where
+  pub wide : count ≤ width p
+  pub few : count ≤ 16
+  pub short : used ≤ 192
+  pub small : sum ≤ 16777216
+  pub within : used ≤ l
+
+module _ (s : Bool) (n e : ℕ) (q counts offs starts values : List ℕ) (c u v : ℕ) (w b : List ℕ) (d : Made s n e q counts offs starts values c u v w b) where
+  pub done-at : (K : Computation) → Laid K n e counts offs starts values → (f : Formula) (rest : List ℕ) → q ≡ prefix f ++ rest → narrow (normal s f) ≡ true → tokens f ≤ 32
+      → Done c u v (normal s f) (length q)
+  done-at K laid f rest reads slim short =
+      let k : c ≡ length (basis K (normal s f)) = sym (length-standing n (full K) c w b) ∙ ap length (d .stands K f rest laid reads) in
+      let i : c ≤ width (normal s f) = omega (arith, basis-width K (normal s f)) in
+      record {
+        wide = i;
+        few = omega (arith, narrow-to (normal s f) slim);
+        short = omega (arith, d .passed f rest reads, tokens.prefix-short f);
+        small = omega (arith, d .counted K f rest laid reads, normals.rounds-small K s f slim short (omega (arith, laid .counted, laid .few-events)));
+        within = omega (arith, d .passed f rest reads, ap length reads, length-append (prefix f) rest);
+      }
+
+  pub done : (mw mb : ℕ) (r : Ready s n e q counts offs starts values mw mb) → Done c u v (normal s (r .formula)) (length q)
+  done mw mb r = done-at (r .computation) (r .laid) (r .formula) (r .rest) (r .reads) (r .slim) (r .short)
+
+module _ (s : Bool) (n e : ℕ) (q counts offs starts values : List ℕ) where
+  pub made-atom : (c : ℕ) (w b : List ℕ) (lo hi : ℕ) → getD q 0 0 ≡ 1 → lo ≡ 256 * getD q 2 0 + getD q 3 0 → hi ≡ 256 * getD q 4 0 + getD q 5 0
+      → c ≤ 1 → (0 < c → getD w 0 0 ≡ 255 → ⊥)
+      → ((K : Computation) → Laid K n e counts offs starts values → standing n (full K) c w b ≡ build K (raiseAtom K (getD q 1 0) (passes s lo hi)) [])
+      → Made s n e q counts offs starts values c 6 0 w b
+  unfolding prefix asTrue asFalse basis rounds
+  made-atom c w b lo hi k el eh h first stands = record {
+    passed = λ f rest r. let g = tokens.at-atom q f rest r k in rw (g .3);
+    stands = λ K f rest laid r.
+        let g = tokens.at-atom q f rest r k in
+        let at : (i : ℕ) → getD q i 0 ≡ getD (prefix (inRange (g .0) (g .1) (g .2)) ++ rest) i 0 = λ i. ap (λ (l : List ℕ). getD l i 0) r ∙ ap (λ (u : Formula). getD (prefix u ++ rest) i 0) (g .3) in
+        let x : getD q 1 0 ≡ g .0 = at 1 in
+        let y : lo ≡ g .1 = omega (arith, el, at 2, at 3, div-add-mod' (g .1) 256) in
+        let z : hi ≡ g .2 = omega (arith, eh, at 4, at 5, div-add-mod' (g .2) 256) in
+        rw (g .3) (stands K laid ∙ ap (λ (i : ℕ). build K (raiseAtom K i (passes s lo hi)) []) x
+        ∙ ap₂ (λ (i j : ℕ). build K (raiseAtom K (g .0) (passes s i j)) []) y z ∙ atom-basis s K (g .0) (g .1) (g .2));
+    counted = λ K f rest laid r. let g = tokens.at-atom q f rest r k in rw (g .3) (atom-rounds s K (g .0) (g .1) (g .2));
+    least = λ i g f. first (omega arith) (ap (λ (x : ℕ). getD w x 0) (sym (ap (λ (x : ℕ). x * ((e + 1) * n)) (let o : i ≡ 0 = omega arith in o) ∙ zero-mul ((e + 1) * n))) ∙ f);
+  }
+    where
+      atom-basis : (t : Bool) (K : Computation) (a l h : ℕ) → build K (raiseAtom K a (passes t l h)) [] ≡ basis K (normal t (inRange a l h))
+      atom-basis true K a l h = refl
+      atom-basis false K a l h = refl
+
+      atom-rounds : (t : Bool) (K : Computation) (a l h : ℕ) → 0 ≡ rounds K (normal t (inRange a l h))
+      atom-rounds true K a l h = refl
+      atom-rounds false K a l h = refl
+
+  module _ (q′ : List ℕ) (d : q′ ≡ drop 1 q) where
+    pub made-not : (c u v c₂ u₂ v₂ : ℕ) (w b : List ℕ) → getD q 0 0 ≡ 2 → c₂ ≡ c → u₂ ≡ u + 1 → v₂ ≡ v
+        → Made (flip s) n e q′ counts offs starts values c u v w b → Made s n e q counts offs starts values c₂ u₂ v₂ w b
+    unfolding prefix
+    made-not c u v c₂ u₂ v₂ w b k ec eu ev m = rw (ec, eu, ev) (record {
+      passed = λ f rest r. let h = tokens.behind-not q f rest r k in rw (h .1) (omega (arith, m .passed (h .0) rest (d ∙ h .2)));
+      stands = λ K f rest laid r. let h = tokens.behind-not q f rest r k in m .stands K (h .0) rest laid (d ∙ h .2) ∙ ap (basis K) (sym (ap (normal s) (h .1) ∙ normals.normal-not s (h .0)));
+      counted = λ K f rest laid r. let h = tokens.behind-not q f rest r k in m .counted K (h .0) rest laid (d ∙ h .2) ∙ ap (rounds K) (sym (ap (normal s) (h .1) ∙ normals.normal-not s (h .0)));
+      least = m .least;
+    })
+
+    pub made-modal : (t : Bool) (c u v c₂ u₂ v₂ : ℕ) (w b w₂ b₂ : List ℕ) → getD q 0 0 ≡ modalToken t → u₂ ≡ u + 1 → v₂ ≡ v
+        → Made t n e q′ counts offs starts values c u v w b → Lifted (under s t) n e c starts w w₂ b b₂ c₂ → Made s n e q counts offs starts values c₂ u₂ v₂ w₂ b₂
+    made-modal t c u v c₂ u₂ v₂ w b w₂ b₂ k eu ev m l = rw (eu, ev) (record {
+      passed = λ f rest r.
+          let h = tokens.behind-modal q f rest r t k in
+          let g : length (prefix f) ≡ suc (length (prefix (h .0))) = ap (λ (x : Formula). length (prefix x)) (h .1) ∙ ap length (tokens.prefix-modal t (h .0)) in
+          omega (arith, m .passed (h .0) rest (d ∙ h .2));
+      stands = λ K f rest laid r.
+          let h = tokens.behind-modal q f rest r t k in
+          l .stands K counts offs values laid ∙ ap (liftedBasis (under s t) K) (m .stands K (h .0) rest laid (d ∙ h .2)) ∙ sym (normals.basis-lifted (under s t) K (normal t (h .0)))
+          ∙ ap (basis K) (sym (ap (normal s) (h .1) ∙ normals.normal-modal s t (h .0)));
+      counted = λ K f rest laid r.
+          let h = tokens.behind-modal q f rest r t k in
+          m .counted K (h .0) rest laid (d ∙ h .2) ∙ sym (normals.rounds-lifted (under s t) K (normal t (h .0))) ∙ ap (rounds K) (sym (ap (normal s) (h .1) ∙ normals.normal-modal s t (h .0)));
+      least = l .least;
+    })
+
+-- What a step for possibly or not possibly is given.
+pub record LiftRoom (n e c u : ℕ) (starts w b : List ℕ) : Type 0 where
+  pub few : c ≤ 16
+  pub cells-fit : c * ((e + 1) * n) ≤ length w
+  pub bars-fit : c * (16 * n) ≤ length b
+  pub one-cells : (e + 1) * n ≤ length w
+  pub one-bars : 16 * n ≤ length b
+  pub short : u ≤ 192
+
+pub lift-room : (s t : Bool) (n e : ℕ) (q q′ counts offs starts values : List ℕ) (mw mb : ℕ) (r : Ready s n e q counts offs starts values mw mb) (d : q′ ≡ drop 1 q)
+    → getD q 0 0 ≡ modalToken t → (c u v : ℕ) (w b : List ℕ) → length w ≡ mw → length b ≡ mb → Made t n e q′ counts offs starts values c u v w b → LiftRoom n e c u starts w b
+lift-room s t n e q q′ counts offs starts values mw mb r d k c u v w b lw lb m =
+    let r′ = ready-modal s n e q counts offs starts values mw mb r q′ d t k in
+    let z = done t n e q′ counts offs starts values c u v w b m mw mb r′ in
+    let h : c ≤ held (normal t (r′ .formula)) = omega (arith, z .wide, width-held (normal t (r′ .formula))) in
+    record {
+      few = z .few;
+      cells-fit = omega (arith, mul-le-mul-right ((e + 1) * n) h, r′ .cells-fit);
+      bars-fit = omega (arith, mul-le-mul-right (16 * n) h, r′ .bars-fit);
+      one-cells = omega (arith, atom-cells t n e q′ counts offs starts values mw mb r′);
+      one-bars = omega (arith, atom-bars t n e q′ counts offs starts values mw mb r′);
+      short = z .short;
+    }

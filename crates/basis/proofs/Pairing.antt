@@ -1,0 +1,263 @@
+-- The second operand of 03 and 04: it is worked out behind the first, and both are joined.
+use mathlib.Core.Path.{_≡_, refl, sym, ap, ap₂, _∙_}
+use Prim.Native.Nat.{ℕ, zero, suc, _+_, _-_, _*_, _≤_, _<_}
+use native.Mathlib.Omega.{arith}
+use native.Mathlib.Numerals.{add-one}
+use native.Mathlib.Nat.{mul-le-mul, mul-le-mul-right, suc-mul, zero-mul, add-mul, not-suc-le-zero, le-of-suc-le-suc}
+use mathlib.Core.List.{List, [], _++_}
+use mathlib.Core.Bool.{Bool, true, false}
+use lib.Dec.{ltb}
+use lib.ListN.{length, getD, take, drop, length-drop, length-append, List·getD-append}
+use lib.Seq.{take-at, drop-at, length-take-le, getD-take, getD-append-add, drop-drop}
+use borrow.Author.Tests.{ltb-true, ltb-false}
+use borrow.Rule.Slice.PartMut.{putMid, same-len-mid}
+use Rattle.model.specs.Lists.{total}
+use Rattle.model.specs.Formula.{Formula, prefix, sound, tokens}
+use Rattle.model.specs.Computation.{Computation, full}
+use Rattle.model.specs.Rules.Normal.{both}
+use Rattle.model.specs.Size.{width, bars, held, narrow}
+use Rattle.model.specs.Structure.{Structure}
+use Rattle.model.specs.Basis.{basis}
+use Rattle.model.specs.Rounds.{rounds}
+use Rattle.structure.specs.Layout.{structureAt, standing, barsAt, cells, barCells}
+use Rattle.structure.specs.Laid.{Laid}
+use Rattle.lattice.proofs.Size.{basis-bars-at, narrow-both}
+use Rattle.lattice.proofs.Held.{held-both}
+use Rattle.structure.proofs.Standing.{standing-same, length-standing}
+use Rattle.modal.specs.Post.{Least}
+use Rattle.modal.proofs.Laws.{put-end, part-room}
+use Rattle.basis.specs.Signed.{normal, two, twoToken, under, joinedForm, joinedBasis, joinedRounds}
+use Rattle.basis.specs.Contract.{Ready, Made, Combined}
+use Rattle.pairs.specs.Post.{PairsReady}
+use Rattle.basis.proofs.Tokens as tokens
+use Rattle.basis.proofs.Normals as normals
+use Rattle.basis.proofs.Operands.{Done, done-at, question-some}
+
+-- The bars of structure i.
+bars-at : (n : ℕ) (counts : List ℕ) (k : ℕ) (w b : List ℕ) (S : Structure) (i : ℕ) → i < k → (getD (standing n counts k w b) i S) .bars ≡ barsAt n 16 (drop (i * (16 * n)) b)
+unfolding standing
+bars-at n counts zero w b S i h = absurd (not-suc-le-zero h)
+bars-at n counts (suc k) w b S zero h = ap (λ (x : ℕ). barsAt n 16 (drop x b)) (sym (zero-mul (16 * n)))
+bars-at n counts (suc k) w b S (suc i) h =
+    let e : barCells n + i * (16 * n) ≡ suc i * (16 * n) = omega (arith, suc-mul i (16 * n)) in
+    bars-at n counts k (drop (cells n counts) w) (drop (barCells n) b) S i (le-of-suc-le-suc h)
+    ∙ ap (barsAt n 16) (drop-drop (i * (16 * n)) (barCells n) b ∙ ap (λ (x : ℕ). drop x b) e)
+
+-- The numbers that the code works with once the first operand stands.
+pub record Left (n e c u v l mw mb : ℕ) : Type 0 where
+  pub few : c ≤ 16
+  pub short : u ≤ 192
+  pub small : v ≤ 16777216
+  pub within : u + 1 ≤ l
+  pub cells-fit : c * ((e + 1) * n) ≤ mw
+  pub bars-fit : c * (16 * n) ≤ mb
+  pub bars-small : c * (16 * n) ≤ 2048
+
+module _ (s b : Bool) (n e : ℕ) (q q′ counts offs starts values : List ℕ) (w₀ b₀ : List ℕ)
+    (r : Ready s n e q counts offs starts values (length w₀) (length b₀)) (k : getD q 0 0 ≡ twoToken b) (d : q′ ≡ drop 1 q)
+    (c u v : ℕ) (w bs : List ℕ) (lw : length w ≡ length w₀) (lb : length bs ≡ length b₀) (m : Made s n e q′ counts offs starts values c u v w bs) where
+  f₁ : Formula
+  f₁ = tokens.behind-two q (r .formula) (r .rest) (r .reads) b k .0
+
+  f₂ : Formula
+  f₂ = tokens.behind-two q (r .formula) (r .rest) (r .reads) b k .1
+
+  abbrev size : ℕ
+  size = (e + 1) * n
+
+  abbrev slot : ℕ
+  slot = 16 * n
+
+  is-two : r .formula ≡ two b f₁ f₂
+  unfolding f₁ f₂
+  is-two = tokens.behind-two q (r .formula) (r .rest) (r .reads) b k .2
+
+  reads-two : drop 1 q ≡ prefix f₁ ++ (prefix f₂ ++ r .rest)
+  unfolding f₁ f₂
+  reads-two = tokens.behind-two q (r .formula) (r .rest) (r .reads) b k .3
+
+  form : normal s (r .formula) ≡ joinedForm (under s b) (normal s f₁) (normal s f₂)
+  form = ap (normal s) is-two ∙ normals.normal-two s b f₁ f₂
+
+  slims : (narrow (normal s f₁) ≡ true) × (narrow (normal s f₂) ≡ true)
+  slims = normals.narrow-joined (under s b) (normal s f₁) (normal s f₂) (sym (ap narrow form) ∙ r .slim)
+
+  left-done : Done c u v (normal s f₁) (length q′)
+  left-done =
+      done-at s n e q′ counts offs starts values c u v w bs m (r .computation) (r .laid) f₁ (prefix f₂ ++ r .rest) (d ∙ reads-two) (slims .0)
+      (omega (arith, r .short, ap tokens is-two, tokens.tokens-two b f₁ f₂))
+
+  sum-held : c + held (normal s f₂) ≤ held (normal s (r .formula))
+  sum-held =
+      omega (arith, left-done .wide, normals.held-joined (under s b) (normal s f₁) (normal s f₂) .1, ap held form)
+
+  cells-two : c * size + held (normal s f₂) * size ≤ length w
+  cells-two = omega (arith, mul-le-mul-right size sum-held, add-mul c (held (normal s f₂)) size, r .cells-fit, lw)
+
+  bars-two : c * slot + held (normal s f₂) * slot ≤ length bs
+  bars-two = omega (arith, mul-le-mul-right slot sum-held, add-mul c (held (normal s f₂)) slot, r .bars-fit, lb)
+
+  pub left : Left n e c u v (length q) (length w) (length bs)
+  left = record {
+    few = left-done .few;
+    short = left-done .short;
+    small = left-done .small;
+    within = omega (arith, left-done .within, ap length d, length-drop 1 q, question-some s n e q counts offs starts values (length w₀) (length b₀) r);
+    cells-fit = omega (arith, cells-two);
+    bars-fit = omega (arith, bars-two);
+    bars-small = mul-le-mul {n₁ = c} {m₁ = 16 * n} {n₂ = 16} {m₂ = 128} (left-done .few) (omega (arith, r .laid .few-stations));
+  }
+
+  used-is : u ≡ length (prefix f₁)
+  used-is = m .passed f₁ (prefix f₂ ++ r .rest) (d ∙ reads-two)
+
+  module _ (q₂ : List ℕ) (d₂ : q₂ ≡ drop (u + 1) q) where
+    pub right-shorter : length q₂ < length q
+    right-shorter = omega (arith, ap length d₂, length-drop (u + 1) q, question-some s n e q counts offs starts values (length w₀) (length b₀) r)
+
+    pub right-ready : Ready s n e q₂ counts offs starts values (length (take (length w - c * size) (drop (c * size) w))) (length (take (length bs - c * slot) (drop (c * slot) bs)))
+    right-ready = record {
+      computation = r .computation;
+      laid = r .laid;
+      formula = f₂;
+      rest = r .rest;
+      reads = d₂ ∙ tokens.second q u (prefix f₁) (prefix f₂ ++ r .rest) reads-two used-is;
+      known = normals.sound-two n b f₁ f₂ (sym (ap (sound n) is-two) ∙ r .known) .1;
+      slim = slims .1;
+      short = omega (arith, r .short, ap tokens is-two, tokens.tokens-two b f₁ f₂);
+      cells-fit = part-room (c * size) (held (normal s f₂) * size) w cells-two;
+      bars-fit = part-room (c * slot) (held (normal s f₂) * slot) bs bars-two;
+    }
+
+    module _ (c₂ u₂ v₂ : ℕ) (p pb : List ℕ) (m₂ : Made s n e q₂ counts offs starts values c₂ u₂ v₂ p pb)
+        (lp : length p ≡ length (take (length w - c * size) (drop (c * size) w))) (lpb : length pb ≡ length (take (length bs - c * slot) (drop (c * slot) bs))) where
+      abbrev w₃ : List ℕ
+      w₃ = putMid (c * size) (length w - c * size) w p
+
+      abbrev b₃ : List ℕ
+      b₃ = putMid (c * slot) (length bs - c * slot) bs pb
+
+      right-done : Done c₂ u₂ v₂ (normal s f₂) (length q₂)
+      right-done =
+          done-at s n e q₂ counts offs starts values c₂ u₂ v₂ p pb m₂ (r .computation) (r .laid) f₂ (r .rest) (d₂ ∙ tokens.second q u (prefix f₁) (prefix f₂ ++ r .rest) reads-two used-is) (slims .1)
+          (omega (arith, r .short, ap tokens is-two, tokens.tokens-two b f₁ f₂))
+
+      pub right-few : (c₂ ≤ 16) × (u₂ ≤ 192) × (v₂ ≤ 16777216)
+      right-few = (right-done .few, right-done .short, right-done .small)
+
+      w-is : w₃ ≡ take (c * size) w ++ p
+      w-is = put-end (c * size) w p (left .cells-fit)
+
+      b-is : b₃ ≡ take (c * slot) bs ++ pb
+      b-is = put-end (c * slot) bs pb (left .bars-fit)
+
+      lw₁ : length (take (c * size) w) ≡ c * size
+      lw₁ = length-take-le (c * size) w (left .cells-fit)
+
+      lb₁ : length (take (c * slot) bs) ≡ c * slot
+      lb₁ = length-take-le (c * slot) bs (left .bars-fit)
+
+      module _ (K : Computation) (counts₂ offs₂ values₂ : List ℕ) (laid : Laid K n e counts₂ offs₂ starts values₂) where
+        cells-is : suc (total (full K)) * n ≡ size
+        cells-is = ap (λ (y : ℕ). suc y * n) (laid .counted) ∙ ap (λ (y : ℕ). y * n) (sym (add-one e))
+
+        left-stands : standing n (full K) c w₃ b₃ ≡ standing n (full K) c w bs
+        left-stands =
+            let x : take (c * cells n (full K)) w₃ ≡ take (c * cells n (full K)) w =
+            ap (λ (y : ℕ). take (c * y) w₃) cells-is ∙ ap (take (c * size)) w-is ∙ take-at (take (c * size) w) p (c * size) lw₁ ∙ ap (λ (y : ℕ). take (c * y) w) (sym cells-is) in
+            standing-same n (full K) c w₃ w b₃ bs (laid .some-station) x (ap (take (c * slot)) b-is ∙ take-at (take (c * slot) bs) pb (c * slot) lb₁)
+
+        right-stands : standing n (full K) c₂ (drop (c * size) w₃) (drop (c * slot) b₃) ≡ standing n (full K) c₂ p pb
+        right-stands =
+            ap₂ (standing n (full K) c₂) (ap (drop (c * size)) w-is ∙ drop-at (take (c * size) w) p (c * size) lw₁) (ap (drop (c * slot)) b-is ∙ drop-at (take (c * slot) bs) pb (c * slot) lb₁)
+
+      pub least-both : Least size (c + c₂) w₃
+      least-both i h f = go (ltb i c) refl
+        where
+          z : 0 < size
+          z = omega (arith, ap (λ (x : ℕ). x * n) (add-one e) ∙ suc-mul e n, r .laid .some-station)
+
+          go : (t : Bool) → ltb i c ≡ t → ⊥
+          go true g =
+              let a : i < c = ltb-true i c g in
+              let j : i * size < c * size = omega (arith, mul-le-mul-right size a, suc-mul i size, z) in
+              m .least i a
+              (sym (getD-take (c * size) w (i * size) 0 j) ∙ sym (List·getD-append (take (c * size) w) p 0 (i * size) (omega (arith, lw₁))) ∙ ap (λ (x : List ℕ). getD x (i * size) 0) (sym w-is) ∙ f)
+          go false g =
+              let a : i ≡ c + (i - c) = omega (arith, ltb-false i c g) in
+              let o : i * size ≡ length (take (c * size) w) + (i - c) * size = ap (λ (x : ℕ). x * size) a ∙ add-mul c (i - c) size ∙ ap (λ (x : ℕ). x + (i - c) * size) (sym lw₁) in
+              m₂ .least (i - c) (omega (arith, ltb-false i c g))
+              (sym (getD-append-add (take (c * size) w) p ((i - c) * size) 0) ∙ ap₂ (λ (x : List ℕ) (y : ℕ). getD x y 0) (sym w-is) (sym o) ∙ f)
+
+      module _ (t : Bool) (flag : t ≡ under s b) where
+        pub pairs-ready : t ≡ true → PairsReady n e c c₂ w₃ b₃
+        unfolding width
+        pairs-ready g =
+            let pair : normal s (r .formula) ≡ both (normal s f₁) (normal s f₂) = form ∙ ap (λ (x : Bool). joinedForm x (normal s f₁) (normal s f₂)) (sym flag ∙ g) in
+            let nb = narrow-both (normal s f₁) (normal s f₂) (sym (ap narrow pair) ∙ r .slim) in
+            let prod : c * c₂ ≤ width (normal s f₁) * width (normal s f₂) = mul-le-mul (left-done .wide) (right-done .wide) in
+            let tot : c + c₂ + c * c₂ ≤ held (normal s (r .formula)) = omega (arith, held-both (normal s f₁) (normal s f₂) .2, ap held pair, left-done .wide, right-done .wide, prod) in
+            let len : length w₃ ≡ length w₀ = same-len-mid (c * size) (length w - c * size) w p lp ∙ lw in
+            let lenb : length b₃ ≡ length b₀ = same-len-mid (c * slot) (length bs - c * slot) bs pb lpb ∙ lb in
+            let L : standing n (full (r .computation)) c w₃ b₃ ≡ basis (r .computation) (normal s f₁) =
+            left-stands (r .computation) counts offs values (r .laid) ∙ m .stands (r .computation) f₁ (prefix f₂ ++ r .rest) (r .laid) (d ∙ reads-two) in
+            let R : standing n (full (r .computation)) c₂ (drop (c * size) w₃) (drop (c * slot) b₃) ≡ basis (r .computation) (normal s f₂) =
+            right-stands (r .computation) counts offs values (r .laid) ∙ m₂ .stands (r .computation) f₂ (r .rest) (r .laid) (d₂ ∙ tokens.second q u (prefix f₁) (prefix f₂ ++ r .rest) reads-two used-is) in
+            record {
+              few = omega (arith, prod, nb .0);
+              left = left-done .few;
+              right = right-done .few;
+              cells-fit = omega (arith, mul-le-mul-right size tot, r .cells-fit, len);
+              bars-fit = omega (arith, mul-le-mul-right slot tot, r .bars-fit, lenb);
+              least = least-both;
+              bars = λ i j hi hj.
+                  let x : length (barsAt n 16 (drop (i * slot) b₃)) ≤ bars (normal s f₁) =
+                  omega (
+                    arith,
+                    ap length (sym (bars-at n (full (r .computation)) c w₃ b₃ (structureAt n [] [] []) i hi)),
+                    ap (λ (l : List Structure). length ((getD l i (structureAt n [] [] [])) .bars)) L,
+                    basis-bars-at (r .computation) (normal s f₁) (structureAt n [] [] []) i (omega (arith, ap length (sym L), length-standing n (full (r .computation)) c w₃ b₃)),
+                  ) in
+                  let o : drop ((c + j) * slot) b₃ ≡ drop (j * slot) (drop (c * slot) b₃) = ap (λ (a : ℕ). drop a b₃) (add-mul c j slot) ∙ sym (drop-drop (j * slot) (c * slot) b₃) in
+                  let y : length (barsAt n 16 (drop ((c + j) * slot) b₃)) ≤ bars (normal s f₂) =
+                  omega (
+                    arith,
+                    ap (λ (l : List ℕ). length (barsAt n 16 l)) o,
+                    ap length (sym (bars-at n (full (r .computation)) c₂ (drop (c * size) w₃) (drop (c * slot) b₃) (structureAt n [] [] []) j hj)),
+                    ap (λ (l : List Structure). length ((getD l j (structureAt n [] [] [])) .bars)) R,
+                    basis-bars-at (r .computation) (normal s f₂) (structureAt n [] [] []) j (omega (arith, ap length (sym R), length-standing n (full (r .computation)) c₂ (drop (c * size) w₃) (drop (c * slot) b₃))),
+                  ) in
+                  omega (arith, nb .1);
+            }
+
+        pub made-two : (c₃ u₃ v₃ : ℕ) (w₄ b₄ : List ℕ) → u₃ ≡ u + 1 + u₂ → Combined t n e c c₂ v v₂ counts starts w₃ w₄ b₃ b₄ c₃ v₃
+            → Made s n e q counts offs starts values c₃ u₃ v₃ w₄ b₄
+        made-two c₃ u₃ v₃ w₄ b₄ eu C = record {
+          passed = λ f rest rd.
+              let h = tokens.behind-two q f rest rd b k in
+              let x : u ≡ length (prefix (h .0)) = m .passed (h .0) (prefix (h .1) ++ rest) (d ∙ h .3) in
+              let y : u₂ ≡ length (prefix (h .1)) = m₂ .passed (h .1) rest (d₂ ∙ tokens.second q u (prefix (h .0)) (prefix (h .1) ++ rest) (h .3) x) in
+              let z : length (prefix f) ≡ suc (length (prefix (h .0) ++ prefix (h .1))) = ap (λ (g : Formula). length (prefix g)) (h .2) ∙ ap length (tokens.prefix-two b (h .0) (h .1)) in
+              omega (arith, eu, length-append (prefix (h .0)) (prefix (h .1)));
+          stands = λ K f rest laid rd.
+              let h = tokens.behind-two q f rest rd b k in
+              let x : u ≡ length (prefix (h .0)) = m .passed (h .0) (prefix (h .1) ++ rest) (d ∙ h .3) in
+              C .joined .stands K offs values laid
+              ∙ ap₂ (joinedBasis t K) (left-stands K counts offs values laid ∙ m .stands K (h .0) (prefix (h .1) ++ rest) laid (d ∙ h .3))
+              (right-stands K counts offs values laid ∙ m₂ .stands K (h .1) rest laid (d₂ ∙ tokens.second q u (prefix (h .0)) (prefix (h .1) ++ rest) (h .3) x))
+              ∙ ap (λ (g : Bool). joinedBasis g K (basis K (normal s (h .0))) (basis K (normal s (h .1)))) flag
+              ∙ sym (normals.basis-joined (under s b) K (normal s (h .0)) (normal s (h .1))) ∙ ap (basis K) (sym (ap (normal s) (h .2) ∙ normals.normal-two s b (h .0) (h .1)));
+          counted = λ K f rest laid rd.
+              let h = tokens.behind-two q f rest rd b k in
+              let x : u ≡ length (prefix (h .0)) = m .passed (h .0) (prefix (h .1) ++ rest) (d ∙ h .3) in
+              let rr : drop (u + 1) q ≡ prefix (h .1) ++ rest = tokens.second q u (prefix (h .0)) (prefix (h .1) ++ rest) (h .3) x in
+              let j : C .joined-rounds ≡ joinedRounds (under s b) K (basis K (normal s (h .0))) (basis K (normal s (h .1))) =
+              C .joined .summed K offs values laid
+              ∙ ap₂ (joinedRounds t K) (left-stands K counts offs values laid ∙ m .stands K (h .0) (prefix (h .1) ++ rest) laid (d ∙ h .3))
+              (right-stands K counts offs values laid ∙ m₂ .stands K (h .1) rest laid (d₂ ∙ rr))
+              ∙ ap (λ (g : Bool). joinedRounds g K (basis K (normal s (h .0))) (basis K (normal s (h .1)))) flag in
+              let z : rounds K (normal s f) ≡ rounds K (normal s (h .0)) + rounds K (normal s (h .1)) + joinedRounds (under s b) K (basis K (normal s (h .0))) (basis K (normal s (h .1))) =
+              ap (rounds K) (ap (normal s) (h .2) ∙ normals.normal-two s b (h .0) (h .1)) ∙ normals.rounds-joined (under s b) K (normal s (h .0)) (normal s (h .1)) in
+              omega (arith, C .summed, m .counted K (h .0) (prefix (h .1) ++ rest) laid (d ∙ h .3), m₂ .counted K (h .1) rest laid (d₂ ∙ rr));
+          least = C .joined .least;
+        }

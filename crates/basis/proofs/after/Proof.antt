@@ -1,0 +1,20 @@
+-- A part that goes to the end is what is left.
+use Rattle.modal.proofs.Laws.{drop-whole}
+use borrow.Author.Needs.{needs}
+use Rattle.basis.proofs.after.Statement.{statement}
+use Rattle.basis.proofs.after.Tie as tie
+
+sub-result : tie.Need-sub-result
+sub-result c = search needs
+
+part-result-start : tie.Need-part-result-start
+part-result-start c = search needs
+
+part-result-end : tie.Need-part-result-end
+part-result-end c = search needs
+
+returns : tie.Need-returns
+returns c = drop-whole (c .before .args .k) (c .before .args .q .now)
+
+pub after-spec : {M : Type 1} → statement M
+after-spec = tie.close (tie.spec sub-result part-result-start part-result-end returns)

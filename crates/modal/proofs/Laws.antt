@@ -1,0 +1,334 @@
+-- Possibly and not possibly: rows below a cut, one structure after the other, and bars at the greatest cuts.
+use mathlib.Core.Path.{_≡_, refl, sym, ap, ap₂, subst, _∙_}
+use Prim.Native.Nat.{ℕ, zero, suc, _+_, _-_, _*_, _≤_, _<_}
+use native.Mathlib.Omega.{arith}
+use native.Mathlib.Numerals.{add-one}
+use native.Mathlib.Nat.{suc-mul, zero-mul, add-zero, mul-le-mul-right, not-suc-le-zero}
+use mathlib.Core.List.{List, [], _∷_, _++_, map, append-assoc, append-nil}
+use mathlib.Core.Bool.{Bool, true, false, cond}
+use mathlib.Core.Option.{none, some}
+use lib.Dec.{eqb, ltb, leb·zero}
+use lib.ListN.{length, getD, take, drop, set, replicate, length-drop, length-replicate, getD-replicate, take-append-drop, List·getD-append}
+use lib.Seq.{paste, length-take-le, take-at, drop-at, drop-drop, take-all, getD-take, getD-drop, getD-append-add, drop-length}
+use borrow.Author.Tests.{eq-eqb, ne-eqb, eqb-false, ltb-true, ltb-false}
+use borrow.Rule.Slice.PartMut.{putMid, post-is}
+use Rattle.model.specs.Lists.{total}
+use Rattle.model.specs.Cut.{Cut, inside, insideAny}
+use Rattle.model.specs.Computation.{Computation, full}
+use Rattle.model.specs.Structure.{Structure, joinRow, joinRows, greatest, keep, build}
+use Rattle.model.specs.Basis.{each, below, lowered, barred}
+use Rattle.structure.specs.Layout.{decoded, rowsAt, stationsAt, structureAt, standing, barsAt, cells, barCells}
+use Rattle.structure.specs.Laid.{Laid}
+use Rattle.steps.specs.Rows.{rowAt, absent, belowRow, Ended}
+use Rattle.steps.proofs.Laws.{join-at}
+use Rattle.steps.proofs.Parts.{row-fits, next-fits, row-zero, row-suc, rows-more, paste-part, paste-take, front-part}
+use Rattle.steps.proofs.Built.{decoded-none, decoded-some, start-there, build-there, keep-free, no-bars}
+use Rattle.steps.proofs.Atoms.{not-both}
+use Rattle.structure.proofs.Standing.{standing-same, standing-add}
+use Rattle.modal.specs.Post.{Least, Lowered, Possible, Impossible}
+
+-- ROWS BELOW A CUT
+
+module _ (n : ℕ) (g starts : List ℕ) (i : ℕ) where
+  pub below-in : inside (rowAt n i starts) g ≡ true → rowAt n i starts ≡ belowRow n g starts i
+  unfolding belowRow
+  below-in h = rw h
+
+  pub below-out : inside (rowAt n i starts) g ≡ false → absent n ≡ belowRow n g starts i
+  unfolding belowRow
+  below-out h = rw h
+
+  pub below-length : (e : ℕ) → i ≤ e → (e + 1) * n ≤ length starts → length (belowRow n g starts i) ≡ n
+  unfolding belowRow
+  below-length e h l = go (inside (rowAt n i starts) g)
+    where
+      go : (b : Bool) → length (cond b (rowAt n i starts) (absent n)) ≡ n
+      go true = length-take-le n (drop (i * n) starts) (omega (arith, length-drop (i * n) starts, row-fits i e n h))
+      go false = length-replicate {A = ℕ} n 255
+
+inside-empty : (n : ℕ) (d : Cut) → inside (replicate n 0) d ≡ true
+unfolding inside
+inside-empty zero d = refl
+inside-empty (suc n) [] = rw (inside-empty n [])
+inside-empty (suc n) (y ∷ d) = rw (leb·zero y, inside-empty n d)
+
+-- The empty cut is contained in every cut, so the least row is there.
+pub below-least : (n : ℕ) (g starts w : List ℕ) → 0 < n → rowAt n 0 starts ≡ replicate n 0 → rowAt n 0 w ≡ belowRow n g starts 0 → getD w 0 0 ≡ 255 → ⊥
+below-least n g starts w h e f q =
+    let r : rowAt n 0 w ≡ replicate n 0 = f ∙ sym (below-in n g starts 0 (ap (λ (x : Cut). inside x g) e ∙ inside-empty n g)) ∙ e in
+    let z : _≡_ {A = ℕ} 0 255 =
+    sym (getD-replicate n 0 0 0 h) ∙ ap (λ (x : List ℕ). getD x 0 0) (sym r ∙ row-zero n w) ∙ getD-take n w 0 0 h ∙ q in
+    omega arith
+
+module _ (K : Computation) (n e : ℕ) (counts offs starts values : List ℕ) (laid : Laid K n e counts offs starts values) where
+  below-decoded : (g : Cut) (i : ℕ) → i ≤ e → decoded (belowRow n g starts i) ≡ below g (rowAt n i starts)
+  unfolding belowRow below
+  below-decoded g i h = go (inside (rowAt n i starts) g)
+    where
+      go : (b : Bool) → decoded (cond b (rowAt n i starts) (absent n)) ≡ cond b (some (rowAt n i starts)) none
+      go true = decoded-some (rowAt n i starts) (start-there K n e counts offs starts values laid i h)
+      go false = decoded-none (absent n) (getD-replicate n 0 255 0 (laid .some-station))
+
+  pub lowered-stands : (g : Cut) (w b : List ℕ) → ((i : ℕ) → i ≤ e → rowAt n i w ≡ belowRow n g starts i) → (getD w 0 0 ≡ 255 → ⊥) → getD b 0 0 ≡ 255
+      → structureAt n (full K) w b ∷ [] ≡ build K (below g) []
+  lowered-stands g w b rows h f =
+      rw (no-bars n b f)
+      (sym (build-there K n e counts offs starts values laid (below g) w (λ i k. ap decoded (rows i k) ∙ below-decoded g i k) [] h ∙ keep-free _ _))
+
+-- ONE STRUCTURE AFTER THE OTHER
+
+pub drop-whole : (k : ℕ) (q : List ℕ) → take (length q - k) (drop k q) ≡ drop k q
+drop-whole k q = take-all (length q - k) (drop k q) (omega (arith, length-drop k q))
+
+pub put-end : (k : ℕ) (w p : List ℕ) → k ≤ length w → putMid k (length w - k) w p ≡ take k w ++ p
+put-end k w p h = rw (post-is k (length w) w h, drop-length w, append-nil p)
+
+each-append : (f : Structure → List Structure) (L M : List Structure) → each f (L ++ M) ≡ each f L ++ each f M
+unfolding each
+each-append f [] M = refl
+each-append f (S ∷ L) M = ap (λ (l : List Structure). f S ++ l) (each-append f L M) ∙ sym (append-assoc (f S) (each f L) (each f M))
+
+-- Behind k cells p was put, of which the first m were written: what stands behind them is as before.
+behind-more : (k m j : ℕ) (w p v : List ℕ) → k ≤ length w → j ≡ k + m → drop m p ≡ drop m (drop k w) → drop k w ≡ drop k v → drop j (take k w ++ p) ≡ drop j v
+behind-more k m j w p v h q e f =
+    ap (λ (x : ℕ). drop x (take k w ++ p)) q ∙ sym (drop-drop m k (take k w ++ p)) ∙ ap (drop m) (drop-at (take k w) p k (length-take-le k w h))
+    ∙ e ∙ ap (drop m) f ∙ drop-drop m k v ∙ ap (λ (x : ℕ). drop x v) (sym q)
+
+-- A turn of the loop for possibly: i structures are done, w₁ and b₁; of what stands behind them p and q are made.
+module _ (n e i : ℕ) (starts w w₁ p b b₁ q : List ℕ) (z : 0 < n) (hw : i * ((e + 1) * n) ≤ length w₁) (hb : i * (16 * n) ≤ length b₁)
+    (dw : drop (i * ((e + 1) * n)) w₁ ≡ drop (i * ((e + 1) * n)) w) (db : drop (i * (16 * n)) b₁ ≡ drop (i * (16 * n)) b)
+    (done : Possible n e i starts w w₁ b b₁) (one : Lowered n e starts (drop (i * ((e + 1) * n)) w₁) p (drop (i * (16 * n)) b₁) q) where
+  abbrev w₂ : List ℕ
+  w₂ = take (i * ((e + 1) * n)) w₁ ++ p
+
+  abbrev b₂ : List ℕ
+  b₂ = take (i * (16 * n)) b₁ ++ q
+
+  pub cells-more : drop ((i + 1) * ((e + 1) * n)) w₂ ≡ drop ((i + 1) * ((e + 1) * n)) w
+  cells-more =
+      behind-more (i * ((e + 1) * n)) ((e + 1) * n) ((i + 1) * ((e + 1) * n)) w₁ p w hw (ap (λ (x : ℕ). x * ((e + 1) * n)) (add-one i) ∙ suc-mul i ((e + 1) * n)) (one .cells-behind) dw
+
+  pub bars-more : drop ((i + 1) * (16 * n)) b₂ ≡ drop ((i + 1) * (16 * n)) b
+  bars-more = behind-more (i * (16 * n)) (16 * n) ((i + 1) * (16 * n)) b₁ q b hb (ap (λ (x : ℕ). x * (16 * n)) (add-one i) ∙ suc-mul i (16 * n)) (one .bars-behind) db
+
+  least-more : Least ((e + 1) * n) (i + 1) w₂
+  least-more j h f = go (ltb j i) refl
+    where
+      l : length (take (i * ((e + 1) * n)) w₁) ≡ i * ((e + 1) * n)
+      l = length-take-le (i * ((e + 1) * n)) w₁ hw
+
+      s : 0 < (e + 1) * n
+      s = omega (arith, ap (λ (x : ℕ). x * n) (add-one e) ∙ suc-mul e n)
+
+      go : (t : Bool) → ltb j i ≡ t → ⊥
+      go true g =
+          let a : j < i = ltb-true j i g in
+          let k : j * ((e + 1) * n) < i * ((e + 1) * n) = omega (arith, mul-le-mul-right ((e + 1) * n) a, suc-mul j ((e + 1) * n), s) in
+          done .least j a
+          (sym (getD-take (i * ((e + 1) * n)) w₁ (j * ((e + 1) * n)) 0 k) ∙ sym (List·getD-append (take (i * ((e + 1) * n)) w₁) p 0 (j * ((e + 1) * n)) (omega (arith, l))) ∙ f)
+      go false g =
+          let a : j ≡ i = omega (arith, ltb-false j i g) in
+          let u : j * ((e + 1) * n) ≡ length (take (i * ((e + 1) * n)) w₁) + 0 = ap (λ (x : ℕ). x * ((e + 1) * n)) a ∙ sym l ∙ sym (add-zero _) in
+          one .least (sym (ap (λ (x : ℕ). getD w₂ x 0) u ∙ getD-append-add (take (i * ((e + 1) * n)) w₁) p 0 0) ∙ f)
+
+  pub lower-turn : Possible n e (i + 1) starts w w₂ b b₂
+  unfolding lowered each standing
+  lower-turn = record {
+    stands = λ K counts offs values laid.
+        let c : suc (total (full K)) * n ≡ (e + 1) * n = ap (λ (x : ℕ). suc x * n) (laid .counted) ∙ ap (λ (x : ℕ). x * n) (sym (add-one e)) in
+        let k : i * cells n (full K) ≡ i * ((e + 1) * n) = ap (λ (x : ℕ). i * x) c in
+        let x : drop (i * cells n (full K)) w₂ ≡ p = ap (λ (x : ℕ). drop x w₂) k ∙ drop-at (take (i * ((e + 1) * n)) w₁) p (i * ((e + 1) * n)) (length-take-le (i * ((e + 1) * n)) w₁ hw) in
+        let y : drop (i * barCells n) b₂ ≡ q = drop-at (take (i * (16 * n)) b₁) q (i * (16 * n)) (length-take-le (i * (16 * n)) b₁ hb) in
+        let old : standing n (full K) i w₂ b₂ ≡ standing n (full K) i w₁ b₁ =
+        standing-same n (full K) i w₂ w₁ b₂ b₁ z (ap (λ (j : ℕ). take j w₂) k ∙ take-at (take (i * ((e + 1) * n)) w₁) p (i * ((e + 1) * n)) (length-take-le (i * ((e + 1) * n)) w₁ hw) ∙ ap (λ (j : ℕ). take j w₁) (sym k))
+        (take-at (take (i * (16 * n)) b₁) q (i * (16 * n)) (length-take-le (i * (16 * n)) b₁ hb)) in
+        let new : standing n (full K) 1 (drop (i * cells n (full K)) w₂) (drop (i * barCells n) b₂) ≡ lowered K (standing n (full K) 1 (drop (i * cells n (full K)) w) (drop (i * barCells n) b)) =
+        ap₂ (standing n (full K) 1) x y ∙ one .stands K counts offs values laid
+        ∙ ap₂ (λ (u v : List ℕ). build K (below (greatest (structureAt n (full K) u v))) []) (dw ∙ ap (λ (j : ℕ). drop j w) (sym k)) db
+        ∙ sym (append-nil _) in
+        standing-add n (full K) i 1 w₂ b₂ ∙ ap₂ (λ (l m : List Structure). l ++ m) (old ∙ done .stands K counts offs values laid) new
+        ∙ sym (each-append (λ S. build K (below (greatest S)) []) (standing n (full K) i w b) _)
+        ∙ ap (lowered K) (sym (standing-add n (full K) i 1 w b));
+    least = least-more;
+  }
+
+pub lower-none : (n e : ℕ) (starts w b : List ℕ) → Possible n e 0 starts w w b b
+unfolding standing lowered each
+lower-none n e starts w b = record { stands = λ K counts offs values laid. refl; least = λ i h. absurd (not-suc-le-zero h) }
+
+pub lower-all : (n e i k : ℕ) (starts w w₂ b b₂ : List ℕ) → i ≡ k → Possible n e i starts w w₂ b b₂ → Possible n e k starts w w₂ b b₂
+lower-all n e i k starts w w₂ b b₂ q d = rw (← q) d
+
+-- A part that goes to the end has room.
+pub part-room : (k m : ℕ) (w : List ℕ) → k + m ≤ length w → m ≤ length (take (length w - k) (drop k w))
+part-room k m w h = omega (arith, ap length (drop-whole k w), length-drop k w)
+
+-- The same turn, as the code leaves it.
+module _ (n e i : ℕ) (starts w w₁ p b b₁ q : List ℕ) (z : 0 < n) (hw : i * ((e + 1) * n) ≤ length w₁) (hb : i * (16 * n) ≤ length b₁)
+    (dw : drop (i * ((e + 1) * n)) w₁ ≡ drop (i * ((e + 1) * n)) w) (db : drop (i * (16 * n)) b₁ ≡ drop (i * (16 * n)) b)
+    (done : Possible n e i starts w w₁ b b₁)
+    (one : Lowered n e starts (take (length w₁ - i * ((e + 1) * n)) (drop (i * ((e + 1) * n)) w₁)) p (take (length b₁ - i * (16 * n)) (drop (i * (16 * n)) b₁)) q) where
+  one′ : Lowered n e starts (drop (i * ((e + 1) * n)) w₁) p (drop (i * (16 * n)) b₁) q
+  one′ =
+      subst (λ (x : List ℕ). Lowered n e starts (drop (i * ((e + 1) * n)) w₁) p x q) (drop-whole (i * (16 * n)) b₁)
+      (subst (λ (x : List ℕ). Lowered n e starts x p (take (length b₁ - i * (16 * n)) (drop (i * (16 * n)) b₁)) q) (drop-whole (i * ((e + 1) * n)) w₁) one)
+
+  pub cells-put : drop ((i + 1) * ((e + 1) * n)) (putMid (i * ((e + 1) * n)) (length w₁ - i * ((e + 1) * n)) w₁ p) ≡ drop ((i + 1) * ((e + 1) * n)) w
+  cells-put = ap (drop ((i + 1) * ((e + 1) * n))) (put-end (i * ((e + 1) * n)) w₁ p hw) ∙ cells-more n e i starts w w₁ p b b₁ q z hw hb dw db done one′
+
+  pub bars-put : drop ((i + 1) * (16 * n)) (putMid (i * (16 * n)) (length b₁ - i * (16 * n)) b₁ q) ≡ drop ((i + 1) * (16 * n)) b
+  bars-put = ap (drop ((i + 1) * (16 * n))) (put-end (i * (16 * n)) b₁ q hb) ∙ bars-more n e i starts w w₁ p b b₁ q z hw hb dw db done one′
+
+  pub lower-put : Possible n e (i + 1) starts w (putMid (i * ((e + 1) * n)) (length w₁ - i * ((e + 1) * n)) w₁ p) b (putMid (i * (16 * n)) (length b₁ - i * (16 * n)) b₁ q)
+  lower-put =
+      subst (λ (x : List ℕ). Possible n e (i + 1) starts w x b (putMid (i * (16 * n)) (length b₁ - i * (16 * n)) b₁ q)) (sym (put-end (i * ((e + 1) * n)) w₁ p hw))
+      (subst (λ (x : List ℕ). Possible n e (i + 1) starts w (take (i * ((e + 1) * n)) w₁ ++ p) b x) (sym (put-end (i * (16 * n)) b₁ q hb))
+      (lower-turn n e i starts w w₁ p b b₁ q z hw hb dw db done one′))
+
+pub lower-one : (n e : ℕ) (starts w w₂ b g : List ℕ) → 0 < n → 16 * n ≤ length b → rowAt n 0 starts ≡ replicate n 0
+    → ((counts d : List ℕ) → total counts ≡ e → take n g ≡ greatest (structureAt n counts w d))
+    → ((i : ℕ) → i ≤ e → rowAt n i w₂ ≡ belowRow n (take n g) starts i) → drop ((e + 1) * n) w₂ ≡ drop ((e + 1) * n) w → Lowered n e starts w w₂ b (set b 0 255)
+lower-one n e starts w w₂ b g z l f top rows behind =
+    let least : getD w₂ 0 0 ≡ 255 → ⊥ = below-least n (take n g) starts w₂ z f (rows 0 (omega arith)) in
+    record {
+      stands = λ K counts offs values laid.
+          lowered-stands K n e counts offs starts values laid (greatest (structureAt n (full K) w b)) w₂ (set b 0 255)
+          (λ i h. rows i h ∙ ap (λ (x : Cut). belowRow n x starts i) (top (full K) b (laid .counted))) least (lib.Seq.getD-set-same b 0 255 0 (omega arith));
+      least = least;
+      cells-behind = behind;
+      bars-behind = lib.Seq.drop-set-lt (16 * n) b 0 255 (omega arith);
+    }
+
+-- BARS
+
+-- Bar i is written.
+pub bars-turn : (n e i : ℕ) (w b b₂ g : List ℕ) → i * n + n ≤ length b → length g ≡ 8 → n ≤ 8
+    → ((counts d : List ℕ) → total counts ≡ e → take n g ≡ greatest (structureAt n counts (drop (i * ((e + 1) * n)) w) d)) → b₂ ≡ paste b (i * n) (drop 0 g) n
+    → ((r : ℕ) → r < i → (counts d : List ℕ) → total counts ≡ e → rowAt n r b ≡ greatest (structureAt n counts (drop (r * ((e + 1) * n)) w) d))
+    → (r : ℕ) → r < i + 1 → (counts d : List ℕ) → total counts ≡ e → rowAt n r b₂ ≡ greatest (structureAt n counts (drop (r * ((e + 1) * n)) w) d)
+bars-turn n e i w b b₂ g h l k top q inv r s counts d t =
+    let l₂ : length (take n g) ≡ n = length-take-le n g (omega arith) in
+    let f : ℕ → List ℕ = λ j. greatest (structureAt n counts (drop (j * ((e + 1) * n)) w) d) in
+    rows-more n f i b b₂ h (ap length (sym (top counts d t)) ∙ l₂)
+    (q ∙ paste-take b (i * n) g n ∙ ap (λ (x : List ℕ). paste b (i * n) x n) (top counts d t)) (λ j u. inv j u counts d t) r s
+
+up : {a b : ℕ} → a < b → suc a < suc b
+up h = omega arith
+
+module _ (n : ℕ) (z : 0 < n) where
+  row-first : (m : ℕ) (w : List ℕ) (g : Cut) → (getD g 0 0 ≡ 255 → ⊥) → getD (joinRow (rowsAt n m w) g) 0 0 ≡ 255 → ⊥
+  unfolding rowsAt joinRow decoded
+  row-first zero w g h = h
+  row-first (suc m) w g h = go (eqb (getD (take n w) 0 0) 255) refl (row-first m (drop n w) g h)
+    where
+      go : (b : Bool) → eqb (getD (take n w) 0 0) 255 ≡ b → (getD (joinRow (rowsAt n m (drop n w)) g) 0 0 ≡ 255 → ⊥)
+          → getD (joinRow (cond b none (some (take n w)) ∷ rowsAt n m (drop n w)) g) 0 0 ≡ 255 → ⊥
+      go true q k = k
+      go false q k = λ f. not-both _ _ (eqb-false (getD (take n w) 0 0) 255 q) k (sym (join-at (take n w) (joinRow (rowsAt n m (drop n w)) g) 0) ∙ f)
+
+  rows-first : (counts w : List ℕ) (g : Cut) → (getD g 0 0 ≡ 255 → ⊥) → getD (joinRows (stationsAt n counts w) g) 0 0 ≡ 255 → ⊥
+  unfolding stationsAt joinRows
+  rows-first [] w g h = h
+  rows-first (m ∷ counts) w g h = row-first m w (joinRows (stationsAt n counts (drop (m * n) w)) g) (rows-first counts (drop (m * n) w) g h)
+
+  -- The first count of a greatest cut is not 255, so it can be a bar.
+  pub greatest-first : (counts w d : List ℕ) → (getD w 0 0 ≡ 255 → ⊥) → getD (greatest (structureAt n counts w d)) 0 0 ≡ 255 → ⊥
+  unfolding greatest
+  greatest-first counts w d h = rows-first counts (drop n w) (take n w) (λ f. h (sym (getD-take n w 0 0 z) ∙ f))
+
+  -- The bars that were written are the greatest cuts of the structures.
+  pub bars-are : (cap k : ℕ) (b counts w d : List ℕ) → k ≤ cap → ((j : ℕ) → j < k → rowAt n j b ≡ greatest (structureAt n counts (drop (j * cells n counts) w) (drop (j * barCells n) d)))
+      → ((j : ℕ) → j < k → getD w (j * cells n counts) 0 ≡ 255 → ⊥) → (k < cap → getD b (k * n) 0 ≡ 255)
+      → barsAt n cap b ≡ map greatest (standing n counts k w d)
+  unfolding barsAt standing
+  bars-are zero zero b counts w d h rows firsts end = refl
+  bars-are zero (suc k) b counts w d h rows firsts end = absurd (not-suc-le-zero h)
+  bars-are (suc cap) zero b counts w d h rows firsts end =
+      let q : getD b 0 0 ≡ 255 = ap (λ (x : ℕ). getD b x 0) (sym (zero-mul n)) ∙ end (omega arith) in
+      rw (eq-eqb (getD b 0 0) 255 q)
+  bars-are (suc cap) (suc k) b counts w d h rows firsts end =
+      let s : ℕ = cells n counts in
+      let u : ℕ = barCells n in
+      let zw : drop (0 * s) w ≡ w = ap (λ (x : ℕ). drop x w) (zero-mul s) in
+      let zd : drop (0 * u) d ≡ d = ap (λ (x : ℕ). drop x d) (zero-mul u) in
+      let r : take n b ≡ greatest (structureAt n counts w d) = sym (row-zero n b) ∙ rows 0 (omega arith) ∙ ap₂ (λ (x y : List ℕ). greatest (structureAt n counts x y)) zw zd in
+      let f : getD w 0 0 ≡ 255 → ⊥ = λ q. firsts 0 (omega arith) (ap (λ (x : ℕ). getD w x 0) (zero-mul s) ∙ q) in
+      let g : getD b 0 0 ≡ 255 → ⊥ = λ q. greatest-first counts w d f (ap (λ (x : List ℕ). getD x 0 0) (sym r) ∙ getD-take n b 0 0 z ∙ q) in
+      let dw : (j : ℕ) → drop (suc j * s) w ≡ drop (j * s) (drop s w) = λ j. ap (λ (x : ℕ). drop x w) (suc-mul j s ∙ native.Mathlib.Nat.add-comm (j * s) s) ∙ sym (drop-drop (j * s) s w) in
+      let dd : (j : ℕ) → drop (suc j * u) d ≡ drop (j * u) (drop u d) = λ j. ap (λ (x : ℕ). drop x d) (suc-mul j u ∙ native.Mathlib.Nat.add-comm (j * u) u) ∙ sym (drop-drop (j * u) u d) in
+      let at : (j : ℕ) → getD (drop s w) (j * s) 0 ≡ getD w (suc j * s) 0 = λ j. getD-drop s w (j * s) 0 ∙ ap (λ (x : ℕ). getD w x 0) (native.Mathlib.Nat.add-comm s (j * s) ∙ sym (suc-mul j s)) in
+      rw (ne-eqb (getD b 0 0) 255 g)
+      (ap₂ (λ (x : Cut) (l : List Cut). x ∷ l) r
+      (bars-are cap k (drop n b) counts (drop s w) (drop u d) (native.Mathlib.Nat.le-of-suc-le-suc h)
+      (λ j q. sym (row-suc n j b) ∙ rows (suc j) (up q) ∙ ap₂ (λ (x y : List ℕ). greatest (structureAt n counts x y)) (dw j) (dd j))
+      (λ j q v. firsts (suc j) (up q) (sym (at j) ∙ v))
+      (λ q. getD-drop n b (k * n) 0 ∙ ap (λ (x : ℕ). getD b x 0) (native.Mathlib.Nat.add-comm n (k * n) ∙ sym (suc-mul k n)) ∙ end (up q))))
+
+-- NOT POSSIBLY
+
+-- All cuts: the starts themselves.
+all-rows : (n e : ℕ) (starts w w₂ : List ℕ) → (e + 1) * n ≤ length w → (e + 1) * n ≤ length starts → w₂ ≡ paste w 0 (drop 0 starts) ((e + 1) * n)
+    → (i : ℕ) → i ≤ e → rowAt n i w₂ ≡ rowAt n i starts
+all-rows n e starts w w₂ h l q i k =
+    let s : ℕ = (e + 1) * n in
+    let f = row-fits i e n k in
+    let p : take s w₂ ≡ take s starts = ap (take s) q ∙ paste-part w 0 starts s (omega arith) l in
+    let cut : (x : List ℕ) → s ≤ length x → rowAt n i x ≡ rowAt n i (take s x) =
+    λ x m. ap (rowAt n i) (sym (take-append-drop s x)) ∙ front-part (take s x) (drop s x) (i * n) n (omega (arith, length-take-le s x m)) in
+    let m : s ≤ length w₂ = omega (arith, ap length q, lib.Seq.length-paste w 0 starts s (omega arith) l) in
+    cut w₂ m ∙ ap (rowAt n i) p ∙ sym (cut starts l)
+
+module _ (n e k : ℕ) (starts w w₂ b b₁ b₂ : List ℕ) (z : 0 < n) (few : k ≤ 16) (hw : (e + 1) * n ≤ length w) (hs : (e + 1) * n ≤ length starts) (hb : k * n ≤ length b₁)
+    (there : getD starts 0 0 ≡ 255 → ⊥) (firsts : Least ((e + 1) * n) k w)
+    (rows : (i : ℕ) → i < k → (counts d : List ℕ) → total counts ≡ e → rowAt n i b₁ ≡ greatest (structureAt n counts (drop (i * ((e + 1) * n)) w) d))
+    (end : Ended 0 k n b₁ b₂) (q : w₂ ≡ paste w 0 (drop 0 starts) ((e + 1) * n)) where
+  first-all : getD w₂ 0 0 ≡ 255 → ⊥
+  first-all f =
+      let r : take n w₂ ≡ take n starts = sym (row-zero n w₂) ∙ all-rows n e starts w w₂ hw hs q 0 (omega arith) ∙ row-zero n starts in
+      there (sym (getD-take n starts 0 0 z) ∙ ap (λ (x : List ℕ). getD x 0 0) (sym r) ∙ getD-take n w₂ 0 0 z ∙ f)
+
+  kept-rows : (i : ℕ) → i < k → rowAt n i b₂ ≡ rowAt n i b₁
+  kept-rows i h =
+      let f = next-fits i k n h in
+      let c : 0 + k * n ≡ k * n = omega arith in
+      let e₂ : take (k * n) b₂ ≡ take (k * n) b₁ = ap (λ (x : ℕ). take x b₂) (sym c) ∙ end .front ∙ ap (λ (x : ℕ). take x b₁) c in
+      let l : length (take (k * n) b₁) ≡ k * n = length-take-le (k * n) b₁ hb in
+      ap (rowAt n i) (sym (take-append-drop (k * n) b₂)) ∙ front-part (take (k * n) b₂) (drop (k * n) b₂) (i * n) n (omega (arith, ap length e₂))
+      ∙ ap (rowAt n i) e₂ ∙ sym (front-part (take (k * n) b₁) (drop (k * n) b₁) (i * n) n (omega arith)) ∙ ap (rowAt n i) (take-append-drop (k * n) b₁)
+
+  module _ (K : Computation) (counts offs values : List ℕ) (laid : Laid K n e counts offs starts values) where
+    barred-is : barred K (standing n (full K) k w b) ≡ keep (structureAt n (full K) w₂ b₂)
+    unfolding barred
+    barred-is =
+        let c : (e + 1) * n ≡ suc (total (full K)) * n = sym (ap (λ (x : ℕ). suc x * n) (laid .counted) ∙ ap (λ (x : ℕ). x * n) (sym (add-one e))) in
+        let bars : barsAt n 16 b₂ ≡ map greatest (standing n (full K) k w b) =
+        bars-are n z 16 k b₂ (full K) w b few
+        (λ j h. kept-rows j h ∙ rows j h (full K) (drop (j * barCells n) b) (laid .counted) ∙ ap (λ (x : ℕ). greatest (structureAt n (full K) (drop (j * x) w) (drop (j * barCells n) b))) c)
+        (λ j h f. firsts j h (ap (λ (x : ℕ). getD w (j * x) 0) c ∙ f))
+        (λ h. ap (λ (x : ℕ). getD b₂ x 0) (let o : k * n ≡ 0 + k * n = omega arith in o) ∙ end .ends h) in
+        build-there K n e counts offs starts values laid some w₂
+        (λ i h. ap decoded (all-rows n e starts w w₂ hw hs q i h) ∙ decoded-some (rowAt n i starts) (start-there K n e counts offs starts values laid i h))
+        (map greatest (standing n (full K) k w b)) first-all
+        ∙ ap (λ (l : List Cut). keep (record { least = take n w₂; rows = stationsAt n (full K) (drop n w₂); bars = l })) (sym bars)
+
+  module _ (g : List ℕ) (t : Bool) (top : (counts d : List ℕ) → total counts ≡ e → take n g ≡ greatest (structureAt n counts (drop 0 w₂) d))
+      (test : t ≡ insideAny (take n g) (barsAt n 16 (drop 0 b₂))) where
+    pub bar-dropped : t ≡ true → Impossible n e k 0 starts w w₂ b b₂
+    unfolding standing keep
+    bar-dropped y = record {
+      stands = λ K counts offs values laid.
+          sym (barred-is K counts offs values laid
+          ∙ ap (λ (x : Bool). cond x [] (structureAt n (full K) w₂ b₂ ∷ [])) (ap (λ (x : Cut). insideAny x (barsAt n 16 b₂)) (sym (top (full K) b₂ (laid .counted))) ∙ sym test ∙ y));
+      least = λ i h. absurd (not-suc-le-zero h);
+      few = omega arith;
+    }
+
+    pub bar-kept : t ≡ false → Impossible n e k 1 starts w w₂ b b₂
+    unfolding standing keep
+    bar-kept y = record {
+      stands = λ K counts offs values laid.
+          sym (barred-is K counts offs values laid
+          ∙ ap (λ (x : Bool). cond x [] (structureAt n (full K) w₂ b₂ ∷ [])) (ap (λ (x : Cut). insideAny x (barsAt n 16 b₂)) (sym (top (full K) b₂ (laid .counted))) ∙ sym test ∙ y));
+      least = λ i h f. first-all (ap (λ (x : ℕ). getD w₂ x 0) (sym (ap (λ (x : ℕ). x * ((e + 1) * n)) (let o : i ≡ 0 = omega arith in o) ∙ zero-mul ((e + 1) * n))) ∙ f);
+      few = omega arith;
+    }

@@ -1,0 +1,288 @@
+-- Structures put one behind the other: one pair, a row of pairs, all pairs.
+use mathlib.Core.Path.{_≡_, refl, sym, ap, ap₂, _∙_}
+use Prim.Native.Nat.{ℕ, suc, _+_, _-_, _*_, _≤_, _<_}
+use native.Mathlib.Omega.{arith}
+use native.Mathlib.Numerals.{add-one}
+use native.Mathlib.Nat.{suc-mul, add-mul, mul-le-mul-right, not-suc-le-zero}
+use mathlib.Core.List.{List, [], _∷_, _++_, append-assoc, append-nil}
+use mathlib.Core.Bool.{Bool, true, false, cond}
+use lib.Dec.{ltb}
+use lib.ListN.{length, getD, take, drop}
+use lib.Seq.{paste, take-take, getD-take, getD-drop, drop-drop}
+use borrow.Author.Tests.{ltb-true, ltb-false}
+use Rattle.model.specs.Lists.{sum, total}
+use Rattle.model.specs.Cut.{Cut, empty, insideAny}
+use Rattle.model.specs.Computation.{Computation, stations, full}
+use Rattle.model.specs.Structure.{Structure, greatest, keep, build, buildOn}
+use Rattle.model.specs.Basis.{start, intersect, each, pairs}
+use Rattle.model.specs.Rounds.{roundsOfPair, roundsOfPairs}
+use Rattle.structure.specs.Layout.{decoded, structureAt, standing, barsAt, placed, cells, barCells}
+use Rattle.structure.specs.Laid.{Laid}
+use Rattle.rounds.specs.Pair.{Starts, Intersected}
+use Rattle.rounds.proofs.FromLaid.{laid-starts}
+use Rattle.steps.proofs.Parts.{paste-part}
+use Rattle.steps.proofs.Built.{decoded-none, decoded-some}
+use Rattle.structure.proofs.Standing.{drop-take, cell-kept, structure-same, standing-same, standing-add}
+use Rattle.pairs.specs.Post.{structureOf, standingFrom, BarsJoined, Put, Paired}
+
+-- FRONTS
+
+short : (x y : ℕ) (v w : List ℕ) → x ≤ y → take y v ≡ take y w → take x v ≡ take x w
+short x y v w h e = sym (take-take x y v h) ∙ ap (take x) e ∙ take-take x y w h
+
+part : (x y : ℕ) (v w : List ℕ) → take (x + y) v ≡ take (x + y) w → take y (drop x v) ≡ take y (drop x w)
+part x y v w e = sym (drop-take x y v) ∙ ap (drop x) e ∙ drop-take x y w
+
+-- LISTS
+
+each-append : (f : Structure → List Structure) (L M : List Structure) → each f (L ++ M) ≡ each f L ++ each f M
+unfolding each
+each-append f [] M = refl
+each-append f (S ∷ L) M = ap (λ (l : List Structure). f S ++ l) (each-append f L M) ∙ sym (append-assoc (f S) (each f L) (each f M))
+
+sum-append : (f : Structure → ℕ) (L M : List Structure) → sum f (L ++ M) ≡ sum f L + sum f M
+unfolding sum
+sum-append f [] M = omega arith
+sum-append f (S ∷ L) M = let h = sum-append f L M in omega arith
+
+each-one : (f : Structure → List Structure) (L : List Structure) (S : Structure) → each f L ++ f S ≡ each f (L ++ (S ∷ []))
+unfolding each
+each-one f L S = sym (each-append f L (S ∷ []) ∙ ap (λ (l : List Structure). each f L ++ l) (append-nil (f S)))
+
+sum-one : (f : Structure → ℕ) (L : List Structure) (S : Structure) → sum f L + f S ≡ sum f (L ++ (S ∷ []))
+unfolding sum
+sum-one f L S = let h = sum-append f L (S ∷ []) in omega arith
+
+-- WHAT STANDS BEFORE A PLACE
+
+module _ (n e : ℕ) (counts starts : List ℕ) where
+  abbrev size : ℕ
+  size = (e + 1) * n
+
+  abbrev slot : ℕ
+  slot = 16 * n
+
+  module _ (K : Computation) (offs values : List ℕ) (laid : Laid K n e counts offs starts values) where
+    pub cells-is : suc (total (full K)) * n ≡ size
+    cells-is = ap (λ (y : ℕ). suc y * n) (laid .counted) ∙ ap (λ (y : ℕ). y * n) (sym (add-one e))
+
+    -- k structures and one more.
+    snoc : (k : ℕ) (w b : List ℕ) → standing n (full K) (k + 1) w b ≡ standing n (full K) k w b ++ (structureOf n e K w b k ∷ [])
+    unfolding standing
+    snoc k w b = standing-add n (full K) k 1 w b ∙ ap (λ (x : ℕ). standing n (full K) k w b ++ (structureAt n (full K) (drop (k * x) w) (drop (k * barCells n) b) ∷ [])) cells-is
+
+    at-sum : (l j : ℕ) (w b : List ℕ) → structureOf n e K (drop (l * size) w) (drop (l * slot) b) j ≡ structureOf n e K w b (l + j)
+    at-sum l j w b =
+        ap₂ (structureAt n (full K)) (drop-drop (j * size) (l * size) w ∙ ap (λ (x : ℕ). drop x w) (sym (add-mul l j size)))
+        (drop-drop (j * slot) (l * slot) b ∙ ap (λ (x : ℕ). drop x b) (sym (add-mul l j slot)))
+
+    module _ (o : ℕ) (w v b d : List ℕ) (ew : take (o * size) w ≡ take (o * size) v) (eb : take (o * slot) b ≡ take (o * slot) d) where
+      from-kept : (l r : ℕ) → l + r ≤ o → standingFrom n e K w b l r ≡ standingFrom n e K v d l r
+      from-kept l r h =
+          standing-same n (full K) r (drop (l * size) w) (drop (l * size) v) (drop (l * slot) b) (drop (l * slot) d) (laid .some-station)
+          (ap (λ (x : ℕ). take (r * x) (drop (l * size) w)) cells-is
+          ∙ part (l * size) (r * size) w v (short (l * size + r * size) (o * size) w v (omega (arith, mul-le-mul-right size h, add-mul l r size)) ew)
+          ∙ ap (λ (x : ℕ). take (r * x) (drop (l * size) v)) (sym cells-is))
+          (part (l * slot) (r * slot) b d (short (l * slot + r * slot) (o * slot) b d (omega (arith, mul-le-mul-right slot h, add-mul l r slot)) eb))
+
+      structure-kept : (i : ℕ) → i < o → structureOf n e K w b i ≡ structureOf n e K v d i
+      structure-kept i h =
+          structure-same n (full K) (drop (i * size) w) (drop (i * size) v) (drop (i * slot) b) (drop (i * slot) d) (laid .some-station)
+          (ap (λ (x : ℕ). take x (drop (i * size) w)) cells-is
+          ∙ part (i * size) size w v (short (i * size + size) (o * size) w v (omega (arith, mul-le-mul-right size h, suc-mul i size)) ew)
+          ∙ ap (λ (x : ℕ). take x (drop (i * size) v)) (sym cells-is))
+          (part (i * slot) slot b d (short (i * slot + slot) (o * slot) b d (omega (arith, mul-le-mul-right slot h, suc-mul i slot)) eb))
+
+  -- ONE BEHIND THE OTHER
+
+  pub put-none : (o : ℕ) (w b : List ℕ) (X : Computation → List Structure) (Y : Computation → ℕ) → ((K : Computation) → X K ≡ []) → ((K : Computation) → Y K ≡ 0) → Put n e o 0 counts starts w w b b X Y 0
+  unfolding standing
+  put-none o w b X Y f g = record {
+    stands = λ K offs values laid. sym (f K);
+    summed = λ K offs values laid. sym (g K);
+    cells-kept = refl;
+    bars-kept = refl;
+    least = λ j h. absurd (not-suc-le-zero h);
+  }
+
+  module _ (z : 0 < n) (o k m : ℕ) (w w₁ w₂ b b₁ b₂ : List ℕ) (X X′ X″ : Computation → List Structure) (Y Y′ Y″ : Computation → ℕ) (s s′ : ℕ)
+      (first : Put n e o k counts starts w w₁ b b₁ X Y s) (second : Put n e (o + k) m counts starts w₁ w₂ b₁ b₂ X′ Y′ s′)
+      (both : (K : Computation) (offs values : List ℕ) → Laid K n e counts offs starts values → X K ++ X′ K ≡ X″ K)
+      (adds : (K : Computation) (offs values : List ℕ) → Laid K n e counts offs starts values → Y K + Y′ K ≡ Y″ K) where
+    put-least : (j : ℕ) → j < k + m → getD w₂ ((o + j) * size) 0 ≡ 255 → ⊥
+    put-least j h f = go (ltb j k) refl
+      where
+        p : 0 < size
+        p = omega (arith, ap (λ (x : ℕ). x * n) (add-one e) ∙ suc-mul e n)
+
+        go : (t : Bool) → ltb j k ≡ t → ⊥
+        go true q =
+            let a : suc (o + j) ≤ o + k = omega (arith, ltb-true j k q) in
+            let c : (o + j) * size < (o + k) * size = omega (arith, mul-le-mul-right size a, suc-mul (o + j) size, p) in
+            first .least j (ltb-true j k q) (sym (cell-kept ((o + j) * size) ((o + k) * size) w₂ w₁ c (second .cells-kept)) ∙ f)
+        go false q =
+            let a : o + k + (j - k) ≡ o + j = omega (arith, ltb-false j k q) in
+            second .least (j - k) (omega (arith, ltb-false j k q)) (ap (λ (x : ℕ). getD w₂ (x * size) 0) a ∙ f)
+
+    pub put-more : Put n e o (k + m) counts starts w w₂ b b₂ X″ Y″ (s + s′)
+    put-more = record {
+      stands = λ K offs values laid.
+          let c : suc (total (full K)) * n ≡ size = cells-is K offs values laid in
+          let old : standing n (full K) k (drop (o * size) w₂) (drop (o * slot) b₂) ≡ X K =
+          from-kept K offs values laid (o + k) w₂ w₁ b₂ b₁ (second .cells-kept) (second .bars-kept) o k (omega arith) ∙ first .stands K offs values laid in
+          let dw : drop (k * cells n (full K)) (drop (o * size) w₂) ≡ drop ((o + k) * size) w₂ =
+          ap (λ (y : ℕ). drop (k * y) (drop (o * size) w₂)) c ∙ drop-drop (k * size) (o * size) w₂ ∙ ap (λ (y : ℕ). drop y w₂) (sym (add-mul o k size)) in
+          let db : drop (k * barCells n) (drop (o * slot) b₂) ≡ drop ((o + k) * slot) b₂ = drop-drop (k * slot) (o * slot) b₂ ∙ ap (λ (y : ℕ). drop y b₂) (sym (add-mul o k slot)) in
+          standing-add n (full K) k m (drop (o * size) w₂) (drop (o * slot) b₂)
+          ∙ ap₂ (λ (l r : List Structure). l ++ r) old (ap₂ (standing n (full K) m) dw db ∙ second .stands K offs values laid) ∙ both K offs values laid;
+      summed = λ K offs values laid. ap₂ (λ (u v : ℕ). u + v) (first .summed K offs values laid) (second .summed K offs values laid) ∙ adds K offs values laid;
+      cells-kept = short (o * size) ((o + k) * size) w₂ w₁ (omega (arith, add-mul o k size)) (second .cells-kept) ∙ first .cells-kept;
+      bars-kept = short (o * slot) ((o + k) * slot) b₂ b₁ (omega (arith, add-mul o k slot)) (second .bars-kept) ∙ first .bars-kept;
+      least = put-least;
+    }
+
+  -- ONE PAIR
+
+  module _ (i j o : ℕ) (w w₁ b b₁ : List ℕ) (rounds : ℕ) (z : 0 < n)
+      (inter : (K : Computation) (bs bt : List ℕ) → Starts K n e counts starts → Intersected K (placed n counts w (i * size) bs) (placed n counts w (j * size) bt) n (drop (o * size) w₁) rounds)
+      (fw : take (o * size) w₁ ≡ take (o * size) w) (bars : BarsJoined n (i * slot) (j * slot) (o * slot) b b₁) where
+    abbrev one : Computation → List Structure
+    one K = intersect K (structureOf n e K w b i) (structureOf n e K w b j)
+
+    abbrev cost : Computation → ℕ
+    cost K = roundsOfPair K (structureOf n e K w b i) (structureOf n e K w b j)
+
+    first-is : getD (take n (drop (o * size) w₁)) 0 0 ≡ getD w₁ (o * size) 0
+    first-is = getD-take n (drop (o * size) w₁) 0 0 z ∙ getD-drop (o * size) w₁ 0 0 ∙ ap (λ (x : ℕ). getD w₁ x 0) (let q : o * size + 0 ≡ o * size = omega arith in q)
+
+    module _ (K : Computation) (offs values : List ℕ) (laid : Laid K n e counts offs starts values) where
+      inter-is : Intersected K (structureOf n e K w b i) (structureOf n e K w b j) n (drop (o * size) w₁) rounds
+      inter-is = rw (laid .counts-are) at (inter K (drop (i * slot) b) (drop (j * slot) b) (laid-starts laid))
+
+      least-is : (start K (structureOf n e K w b i) (structureOf n e K w b j) (empty (stations K))) .reached ≡ decoded (take n (drop (o * size) w₁))
+      least-is = ap (λ (x : ℕ). (start K (structureOf n e K w b i) (structureOf n e K w b j) (empty x)) .reached) (laid .stationed) ∙ sym (inter-is .least)
+
+      one-none : getD w₁ (o * size) 0 ≡ 255 → one K ≡ []
+      unfolding intersect build buildOn
+      one-none f = rw (least-is, decoded-none (take n (drop (o * size) w₁)) (first-is ∙ f))
+
+      one-some : (getD w₁ (o * size) 0 ≡ 255 → ⊥) → one K ≡ keep (structureOf n e K w₁ b₁ o)
+      unfolding intersect build buildOn
+      one-some f = rw (least-is, decoded-some (take n (drop (o * size) w₁)) (λ g. f (sym first-is ∙ g)), bars .bars, inter-is .rows)
+
+    module _ (k : ℕ) (stands : (K : Computation) (offs values : List ℕ) → Laid K n e counts offs starts values → standingFrom n e K w₁ b₁ o k ≡ one K)
+        (there : 0 < k → getD w₁ (o * size) 0 ≡ 255 → ⊥) (few : k ≤ 1) where
+      put-one : Put n e o k counts starts w w₁ b b₁ one cost rounds
+      put-one = record {
+        stands = stands;
+        summed = λ K offs values laid. inter-is K offs values laid .rounds;
+        cells-kept = fw;
+        bars-kept = bars .front;
+        least = λ t h f. there (omega arith) (ap (λ (x : ℕ). getD w₁ (x * size) 0) (let q : o ≡ o + t = omega arith in q) ∙ f);
+      }
+
+    pub one-empty : getD w₁ (o * size) 0 ≡ 255 → Put n e o 0 counts starts w w₁ b b₁ one cost rounds
+    unfolding standing
+    one-empty f = put-one 0 (λ K offs values laid. sym (one-none K offs values laid f)) (λ h. absurd (not-suc-le-zero h)) (omega arith)
+
+    module _ (f : getD w₁ (o * size) 0 ≡ 255 → ⊥) (g : List ℕ) (t : Bool) (top : (counts₂ d : List ℕ) → total counts₂ ≡ e → take n g ≡ greatest (structureAt n counts₂ (drop (o * size) w₁) d))
+        (test : t ≡ insideAny (take n g) (barsAt n 16 (drop (o * slot) b₁))) where
+      keep-is : (K : Computation) (offs values : List ℕ) → Laid K n e counts offs starts values → one K ≡ cond t [] (structureOf n e K w₁ b₁ o ∷ [])
+      unfolding keep
+      keep-is K offs values laid =
+          one-some K offs values laid f
+          ∙ ap (λ (x : Bool). cond x [] (structureOf n e K w₁ b₁ o ∷ []))
+          (ap (λ (x : Cut). insideAny x (barsAt n 16 (drop (o * slot) b₁))) (sym (top (full K) (drop (o * slot) b₁) (laid .counted))) ∙ sym test)
+
+      pub one-dropped : t ≡ true → Put n e o 0 counts starts w w₁ b b₁ one cost rounds
+      unfolding standing
+      one-dropped y =
+          put-one 0 (λ K offs values laid. sym (keep-is K offs values laid ∙ ap (λ (x : Bool). cond x [] (structureOf n e K w₁ b₁ o ∷ [])) y)) (λ h. absurd (not-suc-le-zero h)) (omega arith)
+
+      pub one-kept : t ≡ false → Put n e o 1 counts starts w w₁ b b₁ one cost rounds
+      unfolding standing
+      one-kept y = put-one 1 (λ K offs values laid. sym (keep-is K offs values laid ∙ ap (λ (x : Bool). cond x [] (structureOf n e K w₁ b₁ o ∷ [])) y)) (λ h. f) (omega arith)
+
+  -- A ROW OF PAIRS
+
+  abbrev pub rowX : List ℕ → List ℕ → ℕ → ℕ → ℕ → Computation → List Structure
+  rowX w b i l j K = each (intersect K (structureOf n e K w b i)) (standingFrom n e K w b l j)
+
+  abbrev pub rowY : List ℕ → List ℕ → ℕ → ℕ → ℕ → Computation → ℕ
+  rowY w b i l j K = sum (roundsOfPair K (structureOf n e K w b i)) (standingFrom n e K w b l j)
+
+  pub row-none : (o i l : ℕ) (w b : List ℕ) → Put n e o 0 counts starts w w b b (rowX w b i l 0) (rowY w b i l 0) 0
+  unfolding standing each sum
+  row-none o i l w b = put-none o w b (rowX w b i l 0) (rowY w b i l 0) (λ K. refl) (λ K. refl)
+
+  pub row-more : 0 < n → (o c k i l j : ℕ) (w w₁ w₂ b b₁ b₂ : List ℕ) (s s′ : ℕ) → i < o → l + j < o
+      → Put n e o c counts starts w w₁ b b₁ (rowX w b i l j) (rowY w b i l j) s
+      → Put n e (o + c) k counts starts w₁ w₂ b₁ b₂ (λ K. intersect K (structureOf n e K w₁ b₁ i) (structureOf n e K w₁ b₁ (l + j))) (λ K. roundsOfPair K (structureOf n e K w₁ b₁ i) (structureOf n e K w₁ b₁ (l + j))) s′
+      → Put n e o (c + k) counts starts w w₂ b b₂ (rowX w b i l (j + 1)) (rowY w b i l (j + 1)) (s + s′)
+  row-more z o c k i l j w w₁ w₂ b b₁ b₂ s s′ hi hj p q =
+      put-more z o c k w w₁ w₂ b b₁ b₂ _ _ (rowX w b i l (j + 1)) _ _ (rowY w b i l (j + 1)) s s′ p q
+      (λ K offs values laid.
+      let x = structure-kept K offs values laid o w₁ w b₁ b (p .cells-kept) (p .bars-kept) i hi in
+      let y = structure-kept K offs values laid o w₁ w b₁ b (p .cells-kept) (p .bars-kept) (l + j) hj ∙ sym (at-sum K offs values laid l j w b) in
+      ap₂ (λ (S T : Structure). rowX w b i l j K ++ intersect K S T) x y
+      ∙ each-one (intersect K (structureOf n e K w b i)) (standingFrom n e K w b l j) _
+      ∙ ap (each (intersect K (structureOf n e K w b i))) (sym (snoc K offs values laid j (drop (l * size) w) (drop (l * slot) b))))
+      (λ K offs values laid.
+      let x = structure-kept K offs values laid o w₁ w b₁ b (p .cells-kept) (p .bars-kept) i hi in
+      let y = structure-kept K offs values laid o w₁ w b₁ b (p .cells-kept) (p .bars-kept) (l + j) hj ∙ sym (at-sum K offs values laid l j w b) in
+      ap₂ (λ (S T : Structure). rowY w b i l j K + roundsOfPair K S T) x y
+      ∙ sum-one (roundsOfPair K (structureOf n e K w b i)) (standingFrom n e K w b l j) _
+      ∙ ap (sum (roundsOfPair K (structureOf n e K w b i))) (sym (snoc K offs values laid j (drop (l * size) w) (drop (l * slot) b))))
+
+  -- ALL PAIRS
+
+  abbrev pub allX : List ℕ → List ℕ → ℕ → ℕ → ℕ → Computation → List Structure
+  allX w b l r i K = each (λ S. each (intersect K S) (standingFrom n e K w b l r)) (standing n (full K) i w b)
+
+  abbrev pub allY : List ℕ → List ℕ → ℕ → ℕ → ℕ → Computation → ℕ
+  allY w b l r i K = sum (λ S. sum (roundsOfPair K S) (standingFrom n e K w b l r)) (standing n (full K) i w b)
+
+  pub all-none : (o l r : ℕ) (w b : List ℕ) → Put n e o 0 counts starts w w b b (allX w b l r 0) (allY w b l r 0) 0
+  unfolding standing each sum
+  all-none o l r w b = put-none o w b (allX w b l r 0) (allY w b l r 0) (λ K. refl) (λ K. refl)
+
+  pub all-more : 0 < n → (o c k l r i : ℕ) (w w₁ w₂ b b₁ b₂ : List ℕ) (s s′ : ℕ) → i < o → l + r ≤ o
+      → Put n e o c counts starts w w₁ b b₁ (allX w b l r i) (allY w b l r i) s
+      → Put n e (o + c) k counts starts w₁ w₂ b₁ b₂ (rowX w₁ b₁ i l r) (rowY w₁ b₁ i l r) s′
+      → Put n e o (c + k) counts starts w w₂ b b₂ (allX w b l r (i + 1)) (allY w b l r (i + 1)) (s + s′)
+  all-more z o c k l r i w w₁ w₂ b b₁ b₂ s s′ hi hr p q =
+      put-more z o c k w w₁ w₂ b b₁ b₂ _ _ (allX w b l r (i + 1)) _ _ (allY w b l r (i + 1)) s s′ p q
+      (λ K offs values laid.
+      let x = structure-kept K offs values laid o w₁ w b₁ b (p .cells-kept) (p .bars-kept) i hi in
+      let y = from-kept K offs values laid o w₁ w b₁ b (p .cells-kept) (p .bars-kept) l r hr in
+      ap₂ (λ (S : Structure) (R : List Structure). allX w b l r i K ++ each (intersect K S) R) x y
+      ∙ each-one (λ S. each (intersect K S) (standingFrom n e K w b l r)) (standing n (full K) i w b) (structureOf n e K w b i)
+      ∙ ap (each (λ S. each (intersect K S) (standingFrom n e K w b l r))) (sym (snoc K offs values laid i w b)))
+      (λ K offs values laid.
+      let x = structure-kept K offs values laid o w₁ w b₁ b (p .cells-kept) (p .bars-kept) i hi in
+      let y = from-kept K offs values laid o w₁ w b₁ b (p .cells-kept) (p .bars-kept) l r hr in
+      ap₂ (λ (S : Structure) (R : List Structure). allY w b l r i K + sum (roundsOfPair K S) R) x y
+      ∙ sum-one (λ S. sum (roundsOfPair K S) (standingFrom n e K w b l r)) (standing n (full K) i w b) (structureOf n e K w b i)
+      ∙ ap (sum (λ S. sum (roundsOfPair K S) (standingFrom n e K w b l r))) (sym (snoc K offs values laid i w b)))
+
+  -- Moved to the front.
+  pub moved : 0 < n → (o c l r : ℕ) (w w₁ w₂ b b₁ b₂ : List ℕ) (s : ℕ) → s ≤ 262144 → o * size + c * size ≤ length w₁ → o * slot + c * slot ≤ length b₁
+      → Put n e o c counts starts w w₁ b b₁ (allX w b l r l) (allY w b l r l) s
+      → w₂ ≡ paste w₁ 0 (drop (o * size) w₁) (c * size) → b₂ ≡ paste b₁ 0 (drop (o * slot) b₁) (c * slot)
+      → Paired n e l r counts starts w w₂ b b₂ c s
+  unfolding pairs roundsOfPairs
+  moved z o c l r w w₁ w₂ b b₁ b₂ s small hw hb p sw sb =
+      let ew : take (c * size) w₂ ≡ take (c * size) (drop (o * size) w₁) = ap (take (c * size)) sw ∙ paste-part w₁ 0 (drop (o * size) w₁) (c * size) (omega arith) (omega (arith, lib.ListN.length-drop (o * size) w₁)) in
+      let eb : take (c * slot) b₂ ≡ take (c * slot) (drop (o * slot) b₁) = ap (take (c * slot)) sb ∙ paste-part b₁ 0 (drop (o * slot) b₁) (c * slot) (omega arith) (omega (arith, lib.ListN.length-drop (o * slot) b₁)) in
+      record {
+        stands = λ K offs values laid.
+            standing-same n (full K) c w₂ (drop (o * size) w₁) b₂ (drop (o * slot) b₁) z
+            (ap (λ (x : ℕ). take (c * x) w₂) (cells-is K offs values laid) ∙ ew ∙ ap (λ (x : ℕ). take (c * x) (drop (o * size) w₁)) (sym (cells-is K offs values laid))) eb
+            ∙ p .stands K offs values laid;
+        summed = λ K offs values laid. p .summed K offs values laid;
+        least = λ j h f.
+            let q : 0 < size = omega (arith, ap (λ (x : ℕ). x * n) (add-one e) ∙ suc-mul e n) in
+            let k : j * size < c * size = omega (arith, mul-le-mul-right size h, suc-mul j size) in
+            p .least j h (ap (λ (x : ℕ). getD w₁ x 0) (add-mul o j size) ∙ sym (getD-drop (o * size) w₁ (j * size) 0) ∙ sym (cell-kept (j * size) (c * size) w₂ (drop (o * size) w₁) k ew) ∙ f);
+        small = small;
+      }

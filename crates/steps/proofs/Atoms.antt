@@ -1,0 +1,158 @@
+-- The rows that the table leads to are those of an atom's raising function.
+use mathlib.Core.Path.{_≡_, refl, sym, ap, ap₂, _∙_}
+use mathlib.Core.Logic.{_⊎_, inl, inr, ⊎-elim}
+use Prim.Native.Nat.{ℕ, zero, suc, _+_, _-_, _*_, _≤_, _<_, max}
+use native.Mathlib.Omega.{arith}
+use mathlib.Core.List.{List, [], _∷_}
+use mathlib.Core.Bool.{Bool, true, false, cond}
+use mathlib.Core.Option.{Option, none, some}
+use lib.Dec.{leb}
+use lib.ListN.{length, getD, take, drop, getD-replicate, List·getD-map}
+use lib.Seq.{getD-take, getD-drop}
+use borrow.Author.Tests.{eq-eqb, ne-eqb, leb-true, leb-false}
+use Rattle.model.specs.Lists.{sum, total}
+use Rattle.model.specs.Cut.{Cut, _!_, empty, join}
+use Rattle.model.specs.Computation.{Computation, full, count, value, clock}
+use Rattle.model.specs.Rules.{passes}
+use Rattle.model.specs.Structure.{build}
+use Rattle.model.specs.Basis.{next, upTo, raiseAtom}
+use Rattle.structure.specs.Layout.{decoded, standing}
+use Rattle.structure.specs.Laid.{Laid}
+use Rattle.steps.specs.Rows.{rowAt, absent, coded, entry, eventRow, joinedRow, atomRow, Tabled}
+use Rattle.steps.proofs.Laws.{join-at, event-fits, event-later}
+use Rattle.steps.proofs.Built.{decoded-none, decoded-some, first-row, clock-row, start-there, build-empty, build-there, keep-free, no-bars}
+
+-- THE FIRST COUNT THAT PASSES
+
+next-same : (p q : ℕ → Bool) (m k : ℕ) → ((j : ℕ) → k ≤ j → j < k + m → p j ≡ q j) → next p m k ≡ next q m k
+unfolding next
+next-same p q zero k h = refl
+next-same p q (suc m) k h =
+    ap₂ (λ (b : Bool) (o : Option ℕ). cond b (some k) o) (h k (omega arith) (omega arith)) (next-same p q m (suc k) (λ j a b. h j (omega arith) (omega arith)))
+
+-- Where it is, if it is.
+abbrev Place : (ℕ → Bool) → ℕ → ℕ → Type 0
+Place p m k = (next p m k ≡ none) ⊎ ((j : ℕ) × (k ≤ j) × (j < k + m) × (next p m k ≡ some j))
+
+next-place : (p : ℕ → Bool) (m k : ℕ) → Place p m k
+unfolding next
+next-place p zero k = inl refl
+next-place p (suc m) k = go (p k) (next-place p m (suc k))
+  where
+    go : (b : Bool) → Place p m (suc k)
+        → (cond b (some k) (next p m (suc k)) ≡ none) ⊎ ((j : ℕ) × (k ≤ j) × (j < k + suc m) × (cond b (some k) (next p m (suc k)) ≡ some j))
+    go true r = inr (k, omega arith, omega arith, refl)
+    go false (inl e) = inl e
+    go false (inr (j, a, b, e)) = inr (j, omega arith, omega arith, e)
+
+pub entry-place : (p : ℕ → Bool) (m k : ℕ)
+    → ((entry p m k ≡ 255) × (next p (suc m - k) k ≡ none)) ⊎ ((j : ℕ) × (j ≤ m) × (entry p m k ≡ j) × (next p (suc m - k) k ≡ some j))
+unfolding entry coded
+entry-place p m k = go (next-place p (suc m - k) k)
+  where
+    go : Place p (suc m - k) k → ((coded (next p (suc m - k) k) ≡ 255) × (next p (suc m - k) k ≡ none)) ⊎ ((j : ℕ) × (j ≤ m) × (coded (next p (suc m - k) k) ≡ j) × (next p (suc m - k) k ≡ some j))
+    go (inl e) = inl (ap coded e, e)
+    go (inr (j, a, b, e)) = inr (j, omega arith, ap coded e, e)
+
+-- COUNTS
+
+before-and-own : (l : List ℕ) (s : ℕ) → total (take s l) + getD l s 0 ≤ total l
+unfolding sum
+before-and-own [] zero = omega arith
+before-and-own [] (suc s) = omega arith
+before-and-own (x ∷ l) zero = omega arith
+before-and-own (x ∷ l) (suc s) = let h = before-and-own l s in omega arith
+
+pub not-both : (x y : ℕ) → (x ≡ 255 → ⊥) → (y ≡ 255 → ⊥) → max x y ≡ 255 → ⊥
+not-both x y f g h = go (leb x y) refl
+  where
+    go : (b : Bool) → leb x y ≡ b → ⊥
+    go true q = let a = leb-true x y q in g (omega arith)
+    go false q = let a = leb-false x y q in f (omega arith)
+
+module _ (K : Computation) (n e : ℕ) (counts offs starts values : List ℕ) (laid : Laid K n e counts offs starts values) (s : ℕ) (h : s < n) where
+  pub count-is : getD counts s 0 ≡ count K s
+  count-is = sym (getD-take n counts s 0 h) ∙ ap (λ (l : List ℕ). getD l s 0) (laid .counts-are) ∙ List·getD-map length (K .events) s []
+
+  pub own-fit : getD offs s 0 + getD counts s 0 ≤ e
+  own-fit =
+      omega (arith, before-and-own (full K) s, laid .offs-are s h, laid .counted, sym (getD-take n counts s 0 h) ∙ ap (λ (l : List ℕ). getD l s 0) (laid .counts-are))
+
+  pub values-fit : getD offs s 0 + s + getD counts s 0 < length values
+  values-fit = omega (arith, own-fit, laid .values-fit)
+
+  pub starts-fit : (e + 1) * n ≤ length starts
+  starts-fit =
+      let q : e + 1 ≡ suc (total (full K)) = omega (arith, laid .counted) in
+      rw q (laid .starts-fit)
+
+  event-row-is : (j : ℕ) → j ≤ count K s → rowAt n (eventRow (getD offs s 0) j) starts ≡ clock K s j
+  unfolding eventRow clock
+  event-row-is zero a = first-row K n e counts offs starts values laid ∙ ap empty (sym (laid .stationed))
+  event-row-is (suc j) a =
+      ap (λ (x : ℕ). rowAt n x starts) (event-later (getD offs s 0) (suc j) (omega arith)) ∙ ap (λ (x : ℕ). rowAt n (x + suc j) starts) (laid .offs-are s h) ∙ clock-row K n e counts offs starts values laid s (suc j) a (omega arith)
+
+  module _ (b : Bool) (lo hi : ℕ) (table : List ℕ)
+      (tab : (k : ℕ) → k < 256 → getD table k 0 ≡ entry (λ j. passes b lo hi (getD values (getD offs s 0 + s + j) 0)) (getD counts s 0) k) where
+    abbrev q : ℕ → Bool
+    q j = passes b lo hi (getD values (getD offs s 0 + s + j) 0)
+
+    pub tabled : Tabled n e s (getD offs s 0) table (length starts)
+    tabled = record {
+      station = h;
+      few-stations = laid .few-stations;
+      few-events = laid .few-events;
+      before = omega (arith, own-fit);
+      starts-fit = starts-fit;
+      reach = λ k a f. ⊎-elim (λ r. absurd (f (tab k a ∙ r .0))) (λ r. omega (arith, tab k a, r .1, r .2, own-fit)) (entry-place q (getD counts s 0) k);
+    }
+
+    value-same : (j : ℕ) → j ≤ getD counts s 0 → passes b lo hi (value K s j) ≡ q j
+    value-same j a =
+        let c : j ≤ count K s = omega (arith, count-is) in
+        ap (passes b lo hi) (sym (laid .values-are s j h c) ∙ ap (λ (x : ℕ). getD values (x + s + j) 0) (sym (laid .offs-are s h)))
+
+    raise-is : (i : ℕ) → raiseAtom K s (passes b lo hi) (rowAt n i starts)
+        ≡ upTo K s (rowAt n i starts) (next q (suc (getD counts s 0) - getD starts (i * n + s) 0) (getD starts (i * n + s) 0))
+    unfolding raiseAtom
+    raise-is i =
+        let x : rowAt n i starts ! s ≡ getD starts (i * n + s) 0 = getD-take n (drop (i * n) starts) s 0 h ∙ getD-drop (i * n) starts s 0 in
+        ap₂ (λ (y z : ℕ). upTo K s (rowAt n i starts) (next (λ k. passes b lo hi (value K s k)) (suc z - y) y)) x (sym count-is)
+        ∙ ap (upTo K s (rowAt n i starts))
+        (next-same (λ k. passes b lo hi (value K s k)) q (suc (getD counts s 0) - getD starts (i * n + s) 0) (getD starts (i * n + s) 0) (λ j u v. value-same j (omega arith)))
+
+    pub row-is : (i : ℕ) → i ≤ e → getD starts (i * n + s) 0 < 256
+        → decoded (atomRow n s (getD offs s 0) table starts i) ≡ raiseAtom K s (passes b lo hi) (rowAt n i starts)
+    unfolding atomRow joinedRow upTo
+    row-is i a u = go (entry-place q (getD counts s 0) x)
+      where
+        x : ℕ
+        x = getD starts (i * n + s) 0
+
+        c : Cut
+        c = rowAt n i starts
+
+        go : ((entry q (getD counts s 0) x ≡ 255) × (next q (suc (getD counts s 0) - x) x ≡ none)) ⊎ ((j : ℕ) × (j ≤ getD counts s 0) × (entry q (getD counts s 0) x ≡ j) × (next q (suc (getD counts s 0) - x) x ≡ some j))
+            → decoded (joinedRow n (getD offs s 0) starts i (getD table x 0)) ≡ raiseAtom K s (passes b lo hi) c
+        go (inl (f, g)) =
+            rw (raise-is i, g, eq-eqb (getD table x 0) 255 (tab x u ∙ f)) (decoded-none (absent n) (getD-replicate n 0 255 0 (laid .some-station)))
+        go (inr (j, f, g, r)) =
+            let t : getD table x 0 ≡ j = tab x u ∙ g in
+            let z : j ≡ 255 → ⊥ = λ m. omega (arith, own-fit, laid .few-events) in
+            let d : rowAt n (eventRow (getD offs s 0) j) starts ≡ clock K s j = event-row-is j (omega (arith, count-is)) in
+            let y : eventRow (getD offs s 0) j ≤ e = omega (arith, event-fits (getD offs s 0) j, own-fit) in
+            let v : getD (join c (clock K s j)) 0 0 ≡ 255 → ⊥ =
+            λ m. not-both _ _ (start-there K n e counts offs starts values laid i a) (λ w. start-there K n e counts offs starts values laid (eventRow (getD offs s 0) j) y (ap (λ (l : List ℕ). getD l 0 0) d ∙ w)) (sym (join-at c (clock K s j) 0) ∙ m) in
+            rw (raise-is i, r, t, ne-eqb j 255 z, d) (decoded-some (join c (clock K s j)) v)
+
+    module _ (byte : (i : ℕ) → getD starts (i * n + s) 0 < 256) (w bs : List ℕ)
+        (rows : (i : ℕ) → i ≤ e → rowAt n i w ≡ atomRow n s (getD offs s 0) table starts i) where
+      pub atom-dropped : getD w 0 0 ≡ 255 → standing n (full K) 0 w bs ≡ build K (raiseAtom K s (passes b lo hi)) []
+      unfolding standing
+      atom-dropped z = sym (build-empty K n e counts offs starts values laid (raiseAtom K s (passes b lo hi)) w (λ i a. ap decoded (rows i a) ∙ row-is i a (byte i)) [] z)
+
+      pub atom-kept : (getD w 0 0 ≡ 255 → ⊥) → getD bs 0 0 ≡ 255 → standing n (full K) 1 w bs ≡ build K (raiseAtom K s (passes b lo hi)) []
+      unfolding standing
+      atom-kept z y =
+          rw (no-bars n bs y)
+          (sym (build-there K n e counts offs starts values laid (raiseAtom K s (passes b lo hi)) w (λ i a. ap decoded (rows i a) ∙ row-is i a (byte i)) [] z ∙ keep-free _ _))

@@ -1,0 +1,170 @@
+-- A structure whose rows are what f makes of the starts is the one that `build` makes of f.
+use mathlib.Core.Path.{_≡_, refl, sym, ap, ap₂, _∙_}
+use Prim.Native.Nat.{ℕ, zero, suc, _+_, _-_, _*_, _≤_, _<_}
+use native.Mathlib.Omega.{arith}
+use native.Mathlib.Nat.{not-suc-le-zero, le-of-suc-le-suc}
+use mathlib.Core.List.{List, [], _∷_, map}
+use mathlib.Core.Bool.{Bool, true, false}
+use mathlib.Core.Option.{Option, none, some}
+use lib.Dec.{ltb}
+use lib.ListN.{length, getD, take, drop}
+use lib.Seq.{getD-take}
+use borrow.Author.Tests.{eq-eqb, ne-eqb, ltb-true, ltb-false}
+use Rattle.model.specs.Lists.{sum, total}
+use Rattle.model.specs.Cut.{Cut, empty, insideAny}
+use Rattle.model.specs.Computation.{Computation, Event, stations, full, count, noEvent, clock}
+use Rattle.model.specs.Structure.{keep, build, buildOn}
+use Rattle.structure.specs.Layout.{decoded, rowsAt, stationsAt, barsAt}
+use Rattle.structure.specs.Laid.{Laid}
+use Rattle.steps.specs.Rows.{rowAt}
+use Rattle.steps.proofs.Parts.{row-zero, row-suc, row-skip}
+
+-- WHAT A ROW SAYS
+
+pub decoded-none : (x : List ℕ) → getD x 0 0 ≡ 255 → decoded x ≡ none
+unfolding decoded
+decoded-none x e = rw (eq-eqb (getD x 0 0) 255 e)
+
+pub decoded-some : (x : List ℕ) → (getD x 0 0 ≡ 255 → ⊥) → decoded x ≡ some x
+unfolding decoded
+decoded-some x f = rw (ne-eqb (getD x 0 0) 255 f)
+
+none-some : {c : Cut} → _≡_ {A = Option Cut} none (some c) → ⊥
+none-some e = let z : _≡_ {A = ℕ} 0 1 = cc in absurd (omega arith)
+
+some-same : {a b : Cut} → some a ≡ some b → a ≡ b
+some-same e = cc
+
+pub first-there : (x c : List ℕ) → decoded x ≡ some c → getD x 0 0 ≡ 255 → ⊥
+first-there x c e f = none-some (sym (decoded-none x f) ∙ e)
+
+pub decoded-is : (x c : List ℕ) → decoded x ≡ some c → x ≡ c
+decoded-is x c e = some-same (sym (decoded-some x (first-there x c e)) ∙ e)
+
+-- ROWS, STATION BY STATION
+
+abbrev clocks : List Event → List (Option Cut)
+clocks l = map (λ (v : Event). some (v .clock)) l
+
+module _ (n : ℕ) where
+  head-of : {o p : Option Cut} {l m : List (Option Cut)} → o ∷ l ≡ p ∷ m → o ≡ p
+  head-of e = cc
+
+  tail-of : {o p : Option Cut} {l m : List (Option Cut)} → o ∷ l ≡ p ∷ m → l ≡ m
+  tail-of e = cc
+
+  first-of : {o p : List (Option Cut)} {l m : List (List (Option Cut))} → o ∷ l ≡ p ∷ m → o ≡ p
+  first-of e = cc
+
+  rest-of : {o p : List (Option Cut)} {l m : List (List (Option Cut))} → o ∷ l ≡ p ∷ m → l ≡ m
+  rest-of e = cc
+
+  row-there : (l : List Event) (w : List ℕ) → rowsAt n (length l) w ≡ clocks l → (i : ℕ) → i < length l
+      → decoded (rowAt n i w) ≡ some ((getD l i noEvent) .clock)
+  unfolding rowsAt
+  row-there [] w e i h = absurd (not-suc-le-zero h)
+  row-there (v ∷ l) w e zero h = ap decoded (row-zero n w) ∙ head-of e
+  row-there (v ∷ l) w e (suc i) h = ap decoded (row-suc n i w) ∙ row-there l (drop n w) (tail-of e) i (le-of-suc-le-suc h)
+
+  pub clock-there : (ls : List (List Event)) (w : List ℕ) → stationsAt n (map length ls) w ≡ map clocks ls → (s k : ℕ) → k < length (getD ls s [])
+      → decoded (rowAt n (total (take s (map length ls)) + k) w) ≡ some ((getD (getD ls s []) k noEvent) .clock)
+  unfolding stationsAt sum
+  clock-there [] w e s k h = absurd (not-suc-le-zero h)
+  clock-there (l ∷ ls) w e zero k h =
+      let z : 0 + k ≡ k = omega arith in
+      ap (λ (x : ℕ). decoded (rowAt n x w)) z ∙ row-there l w (first-of e) k h
+  clock-there (l ∷ ls) w e (suc s) k h =
+      let t : ℕ = total (take s (map length ls)) in
+      let z : length l + t + k ≡ length l + (t + k) = omega arith in
+      ap (λ (x : ℕ). decoded (rowAt n x w)) z ∙ ap decoded (row-skip n (length l) (t + k) w) ∙ clock-there ls (drop (length l * n) w) (rest-of e) s k h
+
+  pub each-there : (ls : List (List Event)) (w : List ℕ) → stationsAt n (map length ls) w ≡ map clocks ls → (i : ℕ) → i < total (map length ls)
+      → (c : Cut) × (decoded (rowAt n i w) ≡ some c)
+  unfolding stationsAt sum
+  each-there [] w e i h = absurd (not-suc-le-zero h)
+  each-there (l ∷ ls) w e i h = go (ltb i (length l)) refl (each-there ls (drop (length l * n) w) (rest-of e) (i - length l))
+    where
+      go : (b : Bool) → ltb i (length l) ≡ b → (i - length l < total (map length ls) → (c : Cut) × (decoded (rowAt n (i - length l) (drop (length l * n) w)) ≡ some c))
+          → (c : Cut) × (decoded (rowAt n i w) ≡ some c)
+      go true q r = ((getD l i noEvent) .clock, row-there l w (first-of e) i (ltb-true i (length l) q))
+      go false q r =
+          let a : length l ≤ i = ltb-false i (length l) q in
+          let z : i ≡ length l + (i - length l) = omega arith in
+          let g = r (omega arith) in
+          (g .0, ap (λ (x : ℕ). decoded (rowAt n x w)) z ∙ ap decoded (row-skip n (length l) (i - length l) w) ∙ g .1)
+
+  module _ (f : Cut → Option Cut) where
+    rows-built : (l : List Event) (v w : List ℕ) → rowsAt n (length l) v ≡ clocks l
+        → ((i : ℕ) → i < length l → decoded (rowAt n i w) ≡ f (rowAt n i v)) → rowsAt n (length l) w ≡ map (λ (x : Event). f (x .clock)) l
+    unfolding rowsAt
+    rows-built [] v w e g = refl
+    rows-built (x ∷ l) v w e g =
+        ap₂ (λ (o : Option Cut) (r : List (Option Cut)). o ∷ r)
+        (ap decoded (sym (row-zero n w)) ∙ g 0 (omega arith) ∙ ap f (row-zero n v ∙ decoded-is (take n v) (x .clock) (head-of e)))
+        (rows-built l (drop n v) (drop n w) (tail-of e)
+        (λ i h. ap decoded (sym (row-suc n i w)) ∙ g (suc i) (omega arith) ∙ ap f (row-suc n i v)))
+
+    pub stations-built : (ls : List (List Event)) (v w : List ℕ) → stationsAt n (map length ls) v ≡ map clocks ls
+        → ((i : ℕ) → i < total (map length ls) → decoded (rowAt n i w) ≡ f (rowAt n i v))
+        → stationsAt n (map length ls) w ≡ map (map (λ (x : Event). f (x .clock))) ls
+    unfolding stationsAt sum
+    stations-built [] v w e g = refl
+    stations-built (l ∷ ls) v w e g =
+        ap₂ (λ (o : List (Option Cut)) (r : List (List (Option Cut))). o ∷ r)
+        (rows-built l v w (first-of e) (λ i h. g i (omega arith)))
+        (stations-built ls (drop (length l * n) v) (drop (length l * n) w) (rest-of e)
+        (λ i h. ap decoded (sym (row-skip n (length l) i w)) ∙ g (length l + i) (omega arith) ∙ ap f (row-skip n (length l) i v)))
+
+-- A COMPUTATION LAID OUT
+
+module _ (K : Computation) (n e : ℕ) (counts offs starts values : List ℕ) (laid : Laid K n e counts offs starts values) where
+  pub first-row : rowAt n 0 starts ≡ empty n
+  first-row = row-zero n starts ∙ laid .starts-least
+
+  pub later-rows : stationsAt n (full K) (drop n starts) ≡ map clocks (K .events)
+  later-rows = laid .starts-rows
+
+  -- The clock of event k of station s, where the code finds it.
+  pub clock-row : (s k : ℕ) → k ≤ count K s → 0 < k → rowAt n (total (take s (full K)) + k) starts ≡ clock K s k
+  unfolding clock
+  clock-row s zero h p = absurd (not-suc-le-zero p)
+  clock-row s (suc k) h p =
+      let t : ℕ = total (take s (full K)) in
+      let z : t + suc k ≡ suc (t + k) = omega arith in
+      ap (λ (x : ℕ). rowAt n x starts) z ∙ row-suc n (t + k) starts
+      ∙ decoded-is _ _ (clock-there n (K .events) (drop n starts) later-rows s k h)
+
+  -- The first cell of no start is 255.
+  pub start-there : (i : ℕ) → i ≤ e → getD (rowAt n i starts) 0 0 ≡ 255 → ⊥
+  start-there zero h f =
+      let z : _≡_ {A = ℕ} 0 255 = sym (lib.ListN.getD-replicate n 0 0 0 (laid .some-station)) ∙ ap (λ (x : List ℕ). getD x 0 0) (sym first-row) ∙ f in
+      omega arith
+  start-there (suc i) h f =
+      let r = each-there n (K .events) (drop n starts) later-rows i (omega (arith, laid .counted)) in
+      first-there (rowAt n i (drop n starts)) (r .0) (r .1) (ap (λ (x : List ℕ). getD x 0 0) (sym (row-suc n i starts)) ∙ f)
+
+  module _ (f : Cut → Option Cut) (w : List ℕ) (rows : (i : ℕ) → i ≤ e → decoded (rowAt n i w) ≡ f (rowAt n i starts)) where
+    least-is : f (empty (stations K)) ≡ decoded (take n w)
+    least-is = sym (ap decoded (sym (row-zero n w)) ∙ rows 0 (omega arith) ∙ ap f (first-row ∙ ap empty (sym (laid .stationed))))
+
+    rows-are : stationsAt n (full K) (drop n w) ≡ map (map (λ (x : Event). f (x .clock))) (K .events)
+    rows-are = stations-built n f (K .events) (drop n starts) (drop n w) later-rows
+        (λ i h. ap decoded (sym (row-suc n i w)) ∙ rows (suc i) (omega (arith, laid .counted)) ∙ ap f (row-suc n i starts))
+
+    pub build-empty : (bars : List Cut) → getD w 0 0 ≡ 255 → build K f bars ≡ []
+    unfolding build buildOn
+    build-empty bars h = rw (least-is, decoded-none (take n w) (getD-take n w 0 0 (laid .some-station) ∙ h))
+
+    pub build-there : (bars : List Cut) → (getD w 0 0 ≡ 255 → ⊥)
+        → build K f bars ≡ keep (record { least = take n w; rows = stationsAt n (full K) (drop n w); bars = bars })
+    unfolding build buildOn
+    build-there bars h = rw (least-is, decoded-some (take n w) (λ g. h (sym (getD-take n w 0 0 (laid .some-station)) ∙ g)), rows-are)
+
+-- With no bars nothing is dropped.
+pub keep-free : (c : Cut) (r : List (List (Option Cut))) → keep (record { least = c; rows = r; bars = [] }) ≡ record { least = c; rows = r; bars = [] } ∷ []
+unfolding keep insideAny
+keep-free c r = refl
+
+pub no-bars : (n : ℕ) (b : List ℕ) → getD b 0 0 ≡ 255 → barsAt n 16 b ≡ []
+unfolding barsAt
+no-bars n b e = rw (eq-eqb (getD b 0 0) 255 e)
