@@ -1,0 +1,135 @@
+-- What a loaded log gives: its computation can be laid out, and each question of it can be found and worked out.
+use mathlib.Core.Path.{_≡_, refl, sym, ap, subst, _∙_}
+use mathlib.Core.Bool.{true}
+use mathlib.Core.List.{List, [], _∷_}
+use mathlib.Core.Option.{none, some}
+use Prim.Native.Nat.{ℕ, zero, suc, _+_, _≤_, _<_}
+use native.Mathlib.Omega.{arith}
+use lib.ListN.{length, take, getD, getElem?, length-map, List·getD-map}
+use lib.Seq.{ext-getD, getD-take, length-take-le}
+use Rattle.model.specs.Limits.{limits}
+use Rattle.model.specs.Lists.{total}
+use Rattle.model.specs.Formula.{Formula}
+use Rattle.model.specs.Cut.{Cut}
+use Rattle.model.specs.Computation.{Computation, stations, count, full, eventCount, isConsistent}
+use Rattle.model.specs.Reading.{refused, readLog}
+use Rattle.model.specs.declared.Refusal.{Refusal}
+use Rattle.model.specs.Reply.{number}
+use Rattle.model.specs.Promise.{Asked}
+use Rattle.lattice.proofs.Clocks.{entry-≤}
+use Rattle.lattice.proofs.Consistency.{consistent-iff}
+use Rattle.lattice.proofs.Lists.{all-at}
+use Rattle.codec.proofs.Bytes.{Bytes, bytes-tail}
+use Rattle.codec.proofs.Formulas.{prefix-formula}
+use Rattle.codec.proofs.Lawful.{Lawful}
+use Rattle.codec.proofs.QuestionFrames.{questionFrames, question-spelt}
+use Rattle.codec.proofs.Readings.{IsAccepted, log-accepted, log-are-frames, question-stands}
+use Rattle.structure.specs.Laid.{Laid}
+use Rattle.log.specs.declared.State.{State}
+use Rattle.log.specs.declared.Outcome.{Outcome}
+use Rattle.log.specs.declared.Outcome.the-variants.{Accepted, Refused}
+use Rattle.log.specs.Loaded.{Accepts, Loads}
+use Rattle.layout.specs.Loaded.{Loaded}
+use Rattle.finder.specs.Questions.{Asks, Question}
+
+-- There is a question at each number below their count, and none from there on.
+
+pub question-there : (l : List Formula) (q : ℕ) → q < length l → (f : Formula) × (getElem? l q ≡ some f)
+question-there [] q h = absurd (omega arith)
+question-there (f ∷ l) zero h = (f, refl)
+question-there (f ∷ l) (suc q) h = question-there l q (omega arith)
+
+pub no-question : (l : List Formula) (q : ℕ) → length l ≤ q → getElem? l q ≡ none
+no-question [] q h = refl
+no-question (f ∷ l) zero h = absurd (omega arith)
+no-question (f ∷ l) (suc q) h = no-question l q (omega arith)
+
+-- What loading came to.
+
+pub to-accepts : (o : Outcome) (log : List ℕ) (s : State) (k : ℕ) (list t : List ℕ) → Loads o log s k list t → o ≡ Accepted → Accepts log s k list t
+to-accepts o log s k list t h e = subst (λ (x : Outcome). Loads x log s k list t) e h
+
+pub to-refused : (o : Outcome) (log : List ℕ) (s : State) (k : ℕ) (list t : List ℕ) → Loads o log s k list t → (x : Refusal) → o ≡ Refused x
+    → readLog limits log ≡ refused (number (x .fault)) (x .line)
+to-refused o log s k list t h x e = subst (λ (x : Outcome). Loads x log s k list t) e h
+
+module _ {log : List ℕ} {s : State} {k : ℕ} {list t : List ℕ} (a : Accepts log s k list t) where
+  good : IsAccepted limits (a .reading)
+  good = log-accepted limits log (a .reading) (a .is)
+
+  law : Lawful limits (a .reading)
+  law = good .lawful
+
+  pub question-count : s .questions ≡ length (a .reading .questions)
+  question-count = a .holds .questions
+
+  -- THE COMPUTATION
+
+  pub loaded : Loaded (a .reading .computation) (s .stations) (s .events) (s .counts) t
+  loaded = record {
+    stored = a .holds .stored;
+    sizes = a .holds .sizes;
+    events = sym (a .holds .events);
+    within = λ j m i h. entry-≤ (a .reading .computation) (law .valid) j (suc m) i;
+  }
+
+  counts-full : take (s .stations) (s .counts) ≡ full (a .reading .computation)
+  counts-full =
+      let K = a .reading .computation in
+      let x : length (take (s .stations) (s .counts)) ≡ s .stations = length-take-le (s .stations) (s .counts) (omega (arith, a .bounded .eight, a .bounded .few-stations)) in
+      let y : length (full K) ≡ s .stations = length-map (K .events) length ∙ a .holds .sizes ∙ a .holds .stored .size in
+      ext-getD 0 (take (s .stations) (s .counts)) (full K) (x ∙ sym y) (λ i h.
+      getD-take (s .stations) (s .counts) i 0 (omega arith) ∙ a .holds .stored .each i ∙ sym (List·getD-map length (K .events) i []))
+
+  pub counts-few : total (take (s .stations) (s .counts)) ≤ 127
+  counts-few = omega (arith, ap total counts-full, law .few-events)
+
+  -- A consistent cut has a count for each station.
+  pub cut-size : (c : Cut) → isConsistent (a .reading .computation) c ≡ true → length c ≡ s .stations
+  cut-size c e = consistent-iff (a .reading .computation) c .0 e .size ∙ a .holds .stored .size
+
+  -- A QUESTION
+
+  -- Its bytes.
+  abbrev pub asked : ℕ → List ℕ
+  asked q = getD (questionFrames (a .reading .frames)) q []
+
+  pub asks : (q : ℕ) → q < s .questions → Asks list k (s .events + 1 + q) (asked q)
+  asks q h =
+      let inside : q < length (a .reading .questions) = omega (arith, question-count) in
+      let place : s .events + 1 + q ≡ suc (eventCount (a .reading .computation)) + q = omega (arith, a .holds .events) in
+      record {
+        frames = a .reading .frames;
+        listed = a .listed;
+        there = omega (arith, law .counted (good .begun), place);
+        is = ap (λ (i : ℕ). getD (a .reading .frames) i []) place ∙ question-stands good q inside;
+      }
+
+  asked-bytes : (q : ℕ) → q < s .questions → Bytes (asked q)
+  unfolding asks
+  asked-bytes q h =
+      let x = asks q h in
+      let framed = all-at (log-are-frames limits log (a .reading) (a .is)) [] (s .events + 1 + q) (x .there) .bytes in
+      bytes-tail 0x30 (asked q) (rw (x .is) at framed)
+
+  module _ (q : ℕ) (f : Formula) (is : getElem? (a .reading .questions) q ≡ some f) where
+    pub is-asked : Asked log q (a .reading .computation) f
+    is-asked = record { frames = a .reading .frames; questions = a .reading .questions; reads = a .is; is = is }
+
+    pub question : {offs starts values : List ℕ} (bytes : List ℕ) → bytes ≡ asked q → q < s .questions
+        → Laid (a .reading .computation) (s .stations) (s .events) (s .counts) offs starts values
+        → Question (a .reading .computation) f bytes (s .stations) (s .events) (s .counts) offs starts values
+    question bytes e h laid = record {
+      laid = laid;
+      spells = e ∙ sym (prefix-formula (asked q) f (asked-bytes q h) (question-spelt (law .framed) q ∙ is) .0);
+      named = rw (a .holds .stored .size) at (law .good q f is .0);
+      fitting = law .good q f is .1;
+    }
+
+  -- There is such a question.
+  pub posed : {offs starts values : List ℕ} (q : ℕ) (bytes : List ℕ) → bytes ≡ asked q → q < s .questions
+      → Laid (a .reading .computation) (s .stations) (s .events) (s .counts) offs starts values
+      → (K : Computation) × (f : Formula) × Question K f bytes (s .stations) (s .events) (s .counts) offs starts values
+  posed q bytes e h laid =
+      let there = question-there (a .reading .questions) q (omega (arith, question-count)) in
+      (a .reading .computation, there .0, question q (there .0) (there .1) bytes e h laid)

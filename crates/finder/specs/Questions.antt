@@ -1,0 +1,40 @@
+-- A question of a loaded log: where its bytes stand, and what is known when it is worked out.
+use mathlib.Core.Path.{_≡_}
+use Prim.Native.Nat.{ℕ, _<_}
+use mathlib.Core.Bool.{true}
+use mathlib.Core.List.{List, [], _∷_}
+use lib.ListN.{length, take, getD}
+use Rattle.model.specs.Frames.{listOf}
+use Rattle.model.specs.Formula.{Formula, prefix, sound}
+use Rattle.model.specs.Size.{fits}
+use Rattle.model.specs.Computation.{Computation}
+use Rattle.log.specs.declared.State.{State}
+use Rattle.log.specs.Loaded.{Accepts}
+use Rattle.structure.specs.Laid.{Laid}
+
+-- A list of frames has a frame at an index.
+pub record Indexed (list : List ℕ) (index : ℕ) : Type 0 where
+  pub frames : List (List ℕ)
+  pub is : list ≡ listOf frames
+  pub there : index < length frames
+
+-- The first k bytes of list are a frame list, and the frame at the index is the question q.
+pub record Asks (list : List ℕ) (k index : ℕ) (q : List ℕ) : Type 0 where
+  pub frames : List (List ℕ)
+  pub listed : take k list ≡ listOf frames
+  pub there : index < length frames
+  pub is : getD frames index [] ≡ 0x30 ∷ q
+
+-- The bytes q spell the question f of the computation K, which is laid out.
+pub record Question (K : Computation) (f : Formula) (q : List ℕ) (n e : ℕ) (counts offs starts values : List ℕ) : Type 0 where
+  pub laid : Laid K n e counts offs starts values
+  pub spells : q ≡ prefix f
+  pub named : sound n f ≡ true
+  pub fitting : fits f ≡ true
+
+-- A log was loaded into s and the first k bytes of list, and its computation is laid out.
+pub record Prepared (s : State) (k : ℕ) (list offs starts values : List ℕ) : Type 0 where
+  pub log : List ℕ
+  pub table : List ℕ
+  pub accepts : Accepts log s k list table
+  pub laid : Laid (accepts .reading .computation) (s .stations) (s .events) (s .counts) offs starts values

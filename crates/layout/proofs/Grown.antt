@@ -1,0 +1,78 @@
+-- A list that is written from its front: what stands before a place after one more cell, one more row, one more station. Assumes nothing.
+use mathlib.Core.Path.{_≡_, sym, ap, _∙_}
+use mathlib.Core.List.{List, [], _∷_, _++_, append-assoc, append-nil}
+use Prim.Native.Nat.{ℕ, suc, _+_, _*_, _≤_, _<_}
+use native.Mathlib.Omega.{arith}
+use native.Mathlib.Numerals.{add-one}
+use native.Mathlib.Nat.{add-zero, suc-mul, add-mul, mul-le-mul-right}
+use lib.ListN.{length, take, drop, getD, set, length-drop}
+use lib.Seq.{take-suc, take-suc-set, getD-drop}
+use Rattle.model.specs.Frames.{word}
+use Rattle.model.specs.Lists.{sum, total}
+use Rattle.log.specs.Table.{slot}
+use Rattle.layout.specs.Rows.{inTurn, clockIn, clocksIn, startsIn, valuesOf, valuesIn}
+use Rattle.layout.proofs.Totals.{sum-next}
+
+pub none-yet : (d : List ℕ) (at : ℕ) → take (at + 0) d ≡ take at d ++ []
+none-yet d at = rw (add-zero at, append-nil (take at d))
+
+-- one more list
+pub part-more : (d d′ x y : List ℕ) (a b : ℕ) → take a d ≡ x → take b d′ ≡ take a d ++ y → take b d′ ≡ x ++ y
+part-more d d′ x y a b p q = rw p at q
+
+module _ (d₀ d : List ℕ) (at : ℕ) where
+  pub cell-more : (s : List ℕ) (i v : ℕ) → at + i < length d → take (at + i) d ≡ take at d₀ ++ s → take (at + (i + 1)) (set d (at + i) v) ≡ take at d₀ ++ (s ++ v ∷ [])
+  cell-more s i v h p =
+      let e : at + (i + 1) ≡ suc (at + i) = omega arith in
+      rw (e, take-suc-set d (at + i) v h, p) (append-assoc (take at d₀) s (v ∷ []))
+
+  pub copy-more : (t : List ℕ) (from i : ℕ) → at + i < length d → from + i < length t → take (at + i) d ≡ take at d₀ ++ take i (drop from t)
+      → take (at + (i + 1)) (set d (at + i) (getD t (from + i) 0)) ≡ take at d₀ ++ take (i + 1) (drop from t)
+  copy-more t from i h l p =
+      let b : i < length (drop from t) = simp length-drop (omega arith) in
+      let e : take (i + 1) (drop from t) ≡ take i (drop from t) ++ getD t (from + i) 0 ∷ [] = rw (add-one i, take-suc (drop from t) i 0 b, getD-drop from t i 0) in
+      rw e (cell-more (take i (drop from t)) i (getD t (from + i) 0) h p)
+
+  pub value-more : (t : List ℕ) (j k a v : ℕ) → a ≡ slot j k → v ≡ word (drop a t) → at + k < length d → take (at + k) d ≡ take at d₀ ++ valuesOf t j k
+      → take (at + (k + 1)) (set d (at + k) v) ≡ take at d₀ ++ valuesOf t j (k + 1)
+  unfolding valuesOf inTurn
+  value-more t j k a v e w h p =
+      let x : valuesOf t j (k + 1) ≡ valuesOf t j k ++ v ∷ [] = rw (add-one k, ← e, ← w) in
+      rw x (cell-more (valuesOf t j k) k v h p)
+
+  pub clock-more : (t d′ : List ℕ) (n j k a : ℕ) → a ≡ slot j (k + 1) → take (at + k * n) d ≡ take at d₀ ++ clocksIn t n j k
+      → take (at + k * n + n) d′ ≡ take (at + k * n) d ++ take n (drop (a + 2) t) → take (at + (k + 1) * n) d′ ≡ take at d₀ ++ clocksIn t n j (k + 1)
+  unfolding clocksIn clockIn inTurn
+  clock-more t d′ n j k a e p q =
+      let w : at + (k + 1) * n ≡ at + k * n + n = omega (arith, add-mul k 1 n) in
+      let s : a ≡ slot j (suc k) = omega arith in
+      rw (w, add-one k, ← s, ← append-assoc) (part-more d d′ _ _ (at + k * n) (at + k * n + n) p q)
+
+-- ALL STATIONS: station j of n has m events, and b are those of the stations before it
+module _ (t counts d d′ : List ℕ) (n j m b : ℕ) (h : j < n) (has : m ≡ getD counts j 0) (before : b ≡ total (take j (take n counts))) where
+  pub values-more : take (total (take j (take n counts)) + j) d ≡ valuesIn t counts j → take (b + j + (m + 1)) d′ ≡ take (b + j) d ++ valuesOf t j (m + 1)
+      → take (total (take (j + 1) (take n counts)) + (j + 1)) d′ ≡ valuesIn t counts (j + 1)
+  unfolding valuesIn inTurn
+  values-more p q =
+      let w : total (take (j + 1) (take n counts)) + (j + 1) ≡ b + j + (m + 1) = omega (arith, sum-next counts n j h) in
+      let e : valuesIn t counts (j + 1) ≡ valuesIn t counts j ++ valuesOf t j (m + 1) = rw (add-one j, add-one m, has) in
+      rw (w, e) (part-more d d′ (valuesIn t counts j) (valuesOf t j (m + 1)) (b + j) (b + j + (m + 1)) (rw before p) q)
+
+  pub starts-more : take ((total (take j (take n counts)) + 1) * n) d ≡ startsIn t n counts j → take ((b + 1) * n + m * n) d′ ≡ take ((b + 1) * n) d ++ clocksIn t n j m
+      → take ((total (take (j + 1) (take n counts)) + 1) * n) d′ ≡ startsIn t n counts (j + 1)
+  unfolding startsIn inTurn
+  starts-more p q =
+      let s : total (take (j + 1) (take n counts)) + 1 ≡ b + 1 + m = omega (arith, sum-next counts n j h) in
+      let w : (total (take (j + 1) (take n counts)) + 1) * n ≡ (b + 1) * n + m * n = ap (λ (x : ℕ). x * n) s ∙ add-mul (b + 1) m n in
+      let e : startsIn t n counts (j + 1) ≡ startsIn t n counts j ++ clocksIn t n j m = rw (add-one j, has) (sym (append-assoc (clockIn t n 0 0) (inTurn (λ i. clocksIn t n i (getD counts i 0)) j) (clocksIn t n j (getD counts j 0)))) in
+      rw (w, e) (part-more d d′ (startsIn t n counts j) (clocksIn t n j m) ((b + 1) * n) ((b + 1) * n + m * n) (rw before p) q)
+
+pub starts-first : (t counts d d′ : List ℕ) (n : ℕ) → take (0 + n) d′ ≡ take 0 d ++ take n (drop 2 t) → take ((total (take 0 (take n counts)) + 1) * n) d′ ≡ startsIn t n counts 0
+unfolding startsIn clockIn inTurn sum
+starts-first t counts d d′ n q =
+    let w : (0 + 1) * n ≡ 0 + n = omega arith in
+    rw (w, append-nil (take n (drop 2 t))) q
+
+-- one more row of n cells within m rows
+pub row-fits : (k m n : ℕ) → k < m → k * n + n ≤ m * n
+row-fits k m n h = omega (arith, suc-mul k n, mul-le-mul-right {m = suc k} {n = m} n h)

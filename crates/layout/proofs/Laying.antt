@@ -1,0 +1,137 @@
+-- What is laid out is what the basis wants: offsets, starts and values of the computation that the table holds. Assumes nothing.
+use mathlib.Core.Path.{_≡_, refl, sym, ap, _∙_}
+use mathlib.Core.List.{List, [], _∷_, _++_, map, append-assoc}
+use mathlib.Core.Option.{some}
+use Prim.Native.Nat.{ℕ, suc, _+_, _*_, _≤_, _<_}
+use native.Mathlib.Omega.{arith}
+use native.Mathlib.Numerals.{add-one}
+use lib.ListN.{length, take, drop, getD, length-drop, length-map, length-replicate, take-append-drop, List·getD-map}
+use lib.Seq.{ext-getD, getD-take, length-take-le, take-all, take-length, take-at, drop-at}
+use Rattle.model.specs.Frames.{word}
+use Rattle.model.specs.Lists.{sum, total}
+use Rattle.model.specs.Cut.{empty}
+use Rattle.model.specs.Computation.{Computation, Event, noEvent, stations, history, count, full, clock, value}
+use Rattle.structure.specs.Layout.{stationsAt}
+use Rattle.structure.specs.Laid.{Laid}
+use Rattle.log.specs.Table.{slot}
+use Rattle.layout.specs.Offsets.{Offsets}
+use Rattle.layout.specs.Rows.{inTurn, clockIn, clocksIn, startsIn, valuesOf, valuesIn}
+use Rattle.layout.specs.Loaded.{Loaded}
+use Rattle.layout.proofs.Totals.{sum-next, sum-few, rows-fit}
+use Rattle.layout.proofs.Turns.{spread, turns, turn-at, turn-total}
+use Rattle.layout.proofs.Cells.{Rows, clocks, stations-are}
+
+-- the counts of a loaded log
+module _ {K : Computation} {n e : ℕ} {counts t : List ℕ} (g : Loaded K n e counts t) (fit : n ≤ length counts) where
+  pub counts-full : take n counts ≡ full K
+  counts-full =
+      let x : length (take n counts) ≡ n = length-take-le n counts fit in
+      let y : length (full K) ≡ n = length-map (K .events) length ∙ g .sizes ∙ g .stored .size in
+      ext-getD 0 (take n counts) (full K) (x ∙ sym y) (λ i h.
+      getD-take n counts i 0 (omega arith) ∙ g .stored .each i ∙ sym (List·getD-map length (K .events) i []))
+
+  pub counts-total : total (take n counts) ≡ e
+  counts-total = ap total counts-full ∙ g .events
+
+  -- the clocks and the values of the table
+  module _ (few : total (take n counts) ≤ 127) (small : n ≤ 8) (table : length t ≡ 10240) where
+    count-few : (j : ℕ) → j < n → count K j ≤ 127
+    count-few j h = omega (arith, sum-few counts n j h, g .stored .each j)
+
+    clock-at : (j k : ℕ) → j < n → k ≤ count K j → clockIn t n j k ≡ clock K j k
+    unfolding clockIn
+    clock-at j k h b =
+        let s : j < stations K = rw (g .stored .size) h in
+        rw (g .stored .size) at (g .stored .table .clocks j k s b)
+
+    clock-long : (j k : ℕ) → j < n → k ≤ count K j → length (clock K j k) ≡ n
+    unfolding clockIn
+    clock-long j k h b =
+        let f : n ≤ length (drop (slot j k + 2) t) = simp length-drop (omega (arith, count-few j h)) in
+        ap length (sym (clock-at j k h b)) ∙ length-take-le n (drop (slot j k + 2) t) f
+
+    good-rows : (j : ℕ) → j < n → 0 < n → Rows n (history K j)
+    unfolding clock
+    good-rows j h z k b = record { long = clock-long j (suc k) h (omega arith); there = omega (arith, g .within j k 0 b, count-few 0 z) }
+
+    station-clocks : (j : ℕ) → j < n → clocksIn t n j (getD counts j 0) ≡ clocks (history K j)
+    unfolding clocksIn clock
+    station-clocks j h =
+        rw (g .stored .each j) (turns (λ (v : Event). v .clock) (λ k. clockIn t n j (suc k)) (history K j) noEvent (λ k b. clock-at j (suc k) h (omega arith)) (count K j) (omega arith)
+        ∙ ap clocks (take-length (history K j)))
+
+    all-clocks : 0 < n → startsIn t n counts n ≡ empty n ++ spread clocks (K .events)
+    unfolding startsIn clock
+    all-clocks z =
+        let m : length (K .events) ≡ n = g .sizes ∙ g .stored .size in
+        let first : clockIn t n 0 0 ≡ empty n = clock-at 0 0 z (omega arith) ∙ ap empty (g .stored .size) in
+        let rest : inTurn (λ i. clocksIn t n i (getD counts i 0)) n ≡ spread clocks (take n (K .events)) = turns clocks (λ i. clocksIn t n i (getD counts i 0)) (K .events) [] (λ j b. station-clocks j (omega arith)) n (omega arith) in
+        rw (first, rest, take-all n (K .events) (omega arith))
+
+    -- starts: the empty cut, the clocks, and what stands behind them
+    module _ (starts : List ℕ) (z : 0 < n) (p : take ((total (take n counts) + 1) * n) starts ≡ startsIn t n counts n) where
+      abbrev behind : List ℕ
+      behind = drop ((total (take n counts) + 1) * n) starts
+
+      empty-long : length (empty n) ≡ n
+      empty-long = length-replicate {A = ℕ} n 0
+
+      whole : starts ≡ empty n ++ (spread clocks (K .events) ++ behind)
+      whole =
+          sym (take-append-drop ((total (take n counts) + 1) * n) starts) ∙ ap (λ (x : List ℕ). x ++ behind) (p ∙ all-clocks z)
+          ∙ append-assoc (empty n) (spread clocks (K .events)) behind
+
+      pub least-laid : take n starts ≡ empty n
+      least-laid = ap (take n) whole ∙ take-at (empty n) (spread clocks (K .events) ++ behind) n empty-long
+
+      pub rows-laid : stationsAt n (full K) (drop n starts) ≡ map (map (λ (v : Event). some (v .clock))) (K .events)
+      rows-laid =
+          let m : length (K .events) ≡ n = g .sizes ∙ g .stored .size in
+          let d : drop n starts ≡ spread clocks (K .events) ++ behind = ap (drop n) whole ∙ drop-at (empty n) (spread clocks (K .events) ++ behind) n empty-long in
+          rw d (stations-are n (K .events) behind (λ j b. good-rows j (omega arith) z))
+
+    value-at : (j k : ℕ) → j < n → k ≤ count K j → word (drop (slot j k) t) ≡ value K j k
+    value-at j k h b = g .stored .table .values j k (rw (g .stored .size) h) b
+
+    values-long : (j m : ℕ) → length (valuesOf t j m) ≡ m
+    unfolding valuesOf
+    values-long j m = turn-total (λ k. word (drop (slot j k) t) ∷ []) (λ k. k) refl m (λ k h. omega arith) m (omega arith)
+
+    station-value : (j k m : ℕ) → k < m → getD (valuesOf t j m) k 0 ≡ word (drop (slot j k) t)
+    unfolding valuesOf
+    station-value j k m h = ap (λ (i : ℕ). getD (valuesOf t j m) i 0) (omega (arith, values-long j k)) ∙ turn-at (λ i. word (drop (slot j i) t) ∷ []) k m 0 h (omega arith)
+
+    before-length : (j : ℕ) → j ≤ n → length (valuesIn t counts j) ≡ total (take j (take n counts)) + j
+    unfolding valuesIn sum
+    before-length = turn-total (λ i. valuesOf t i (suc (getD counts i 0))) (λ j. total (take j (take n counts)) + j) refl n
+        (λ j h. rw (← add-one j) (omega (arith, sum-next counts n j h, values-long j (suc (getD counts j 0)))))
+
+    pub values-laid : (values : List ℕ) → take (total (take n counts) + n) values ≡ valuesIn t counts n
+        → (j k : ℕ) → j < n → k ≤ count K j → getD values (total (take j (take n counts)) + j + k) 0 ≡ value K j k
+    unfolding valuesIn
+    values-laid values p j k h b =
+        let q : k < suc (getD counts j 0) = omega (arith, g .stored .each j) in
+        let i : total (take j (take n counts)) + j + k < total (take n counts) + n = omega (arith, sum-few counts n j h) in
+        let o : total (take j (take n counts)) + j + k ≡ length (valuesIn t counts j) + k = omega (arith, before-length j (omega arith)) in
+        sym (getD-take (total (take n counts) + n) values (total (take j (take n counts)) + j + k) 0 i)
+        ∙ ap (λ (x : List ℕ). getD x (total (take j (take n counts)) + j + k) 0) p ∙ ap (λ (x : ℕ). getD (valuesIn t counts n) x 0) o
+        ∙ turn-at (λ x. valuesOf t x (suc (getD counts x 0))) j n k h (omega (arith, values-long j (suc (getD counts j 0))))
+        ∙ station-value j k (suc (getD counts j 0)) q ∙ value-at j k h b
+
+    pub laid : (offs starts values : List ℕ) → 0 < n → 1024 ≤ length starts → 135 ≤ length values → Offsets n counts offs
+        → take ((total (take n counts) + 1) * n) starts ≡ startsIn t n counts n → take (total (take n counts) + n) values ≡ valuesIn t counts n → Laid K n e counts offs starts values
+    laid offs starts values z a b o p q =
+        record {
+          stationed = g .stored .size;
+          some-station = z;
+          few-stations = small;
+          counted = g .events;
+          few-events = omega (arith, counts-total);
+          counts-are = counts-full;
+          offs-are = λ j h. o .are j h ∙ ap (λ (c : List ℕ). total (take j c)) counts-full;
+          starts-fit = rw (← counts-full, ← add-one (total (take n counts))) (omega (arith, rows-fit (total (take n counts)) n few small));
+          starts-least = least-laid starts z p;
+          starts-rows = rows-laid starts z p;
+          values-fit = omega (arith, counts-total);
+          values-are = λ j k h l. rw (← counts-full) (values-laid values q j k h l);
+        }

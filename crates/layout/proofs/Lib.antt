@@ -1,0 +1,6 @@
+pub mod Totals
+pub mod Grown
+pub mod Turns
+pub mod Cells
+pub mod Laying
+pub mod Closed

@@ -1,0 +1,52 @@
+-- Sums of the first counts: one more count, and their bound. Assumes nothing.
+use mathlib.Core.Path.{_≡_, refl, _∙_}
+use mathlib.Core.Bool.{Bool, true, false}
+use mathlib.Core.List.{List, [], _∷_}
+use Prim.Native.Nat.{ℕ, zero, suc, _+_, _*_, _≤_, _<_}
+use native.Mathlib.Omega.{arith}
+use native.Mathlib.Numerals.{add-one}
+use native.Mathlib.Nat.{add-mul, mul-le-mul-right}
+use lib.ListN.{length, getD, take, set}
+use lib.Seq.{getD-take, getD-set-same, getD-set-other}
+use lib.Dec.{eqb}
+use borrow.Author.Tests.{eqb-true, eqb-false}
+use Rattle.model.specs.Lists.{sum, total}
+
+pub total-suc : (l : List ℕ) (j : ℕ) → total (take (suc j) l) ≡ total (take j l) + getD l j 0
+unfolding sum
+total-suc [] zero = refl
+total-suc [] (suc j) = refl
+total-suc (x ∷ l) zero = omega arith
+total-suc (x ∷ l) (suc j) = omega (arith, total-suc l j)
+
+pub total-front : (l : List ℕ) (j : ℕ) → total (take j l) ≤ total l
+unfolding sum
+total-front l zero = omega arith
+total-front [] (suc j) = omega arith
+total-front (x ∷ l) (suc j) = omega (arith, total-front l j)
+
+-- station j of n
+module _ (counts : List ℕ) (n j : ℕ) (h : j < n) where
+  pub sum-next : total (take (j + 1) (take n counts)) ≡ total (take j (take n counts)) + getD counts j 0
+  sum-next = rw (add-one j, total-suc (take n counts) j, getD-take n counts j 0 h)
+
+  pub sum-few : total (take j (take n counts)) + getD counts j 0 ≤ total (take n counts)
+  sum-few = omega (arith, sum-next, total-front (take n counts) (j + 1))
+
+-- x + 1 rows of n cells
+pub rows-fit : (x n : ℕ) → x ≤ 127 → n ≤ 8 → (x + 1) * n ≤ 1024
+rows-fit x n a b =
+    let h : x + 1 ≤ 128 = omega arith in
+    omega (arith, mul-le-mul-right {m = x + 1} {n = 128} n h)
+
+-- the rows of m events behind those of b
+pub station-fits : (b m n : ℕ) → b + m ≤ 127 → n ≤ 8 → (b + 1) * n + m * n ≤ 1024
+station-fits b m n a h = omega (arith, rows-fit (b + m) n a h, add-mul b m n, add-mul b 1 n, add-mul (b + m) 1 n)
+
+-- one more sum stored
+pub sum-set : (counts offs : List ℕ) (n j x : ℕ) → j < length offs → x ≡ total (take j (take n counts)) → ((i : ℕ) → i < j → getD offs i 0 ≡ total (take i (take n counts)))
+    → (i : ℕ) → i < j + 1 → getD (set offs j x) i 0 ≡ total (take i (take n counts))
+sum-set counts offs n j x h e p i b = go (eqb i j) refl where
+  go : (b : Bool) → eqb i j ≡ b → getD (set offs j x) i 0 ≡ total (take i (take n counts))
+  go true q = rw (eqb-true i j q, getD-set-same offs j x 0 h) e
+  go false q = getD-set-other offs j i x 0 (eqb-false i j q) ∙ p i (omega (arith, eqb-false i j q))

@@ -1,0 +1,61 @@
+-- The invariant: every station before j passes, whatever computation the table holds. Assumes nothing.
+use borrow.Author.Needs.{needs}
+use mathlib.Core.Path.{_≡_, refl}
+use mathlib.Core.Bool.{true}
+use Prim.Native.Nat.{_≤_, _-_}
+use native.Mathlib.Omega.{arith}
+use lib.ListN.{getD}
+use Rattle.model.specs.Lists.{every}
+use Rattle.model.specs.Computation.{Computation, known}
+use Rattle.log.specs.Table.{Stored}
+use Rattle.layout.proofs.Closed.{wrong-size, wrong-station, right-station, all-right}
+use Rattle.layout.proofs.consistent.consistent.Statement.{statement}
+use Rattle.layout.proofs.consistent.consistent.Tie as tie
+
+abbrev Inv-loop : tie.InvT-loop
+Inv-loop cut table n counts j₀ j = (j ≤ n) × ((K : Computation) → Stored K n counts table → every j (λ i. known K cut i (getD cut i 0)) ≡ true)
+
+abbrev μ-loop : tie.MeasureT-loop
+μ-loop cut table n counts j₀ j = n - j
+
+returns : tie.Need-returns Inv-loop μ-loop
+returns c = λ K g. wrong-size _ g (c .if1 .taken)
+
+loop-holds : tie.Need-loop-holds Inv-loop μ-loop
+unfolding every
+loop-holds c = (omega arith, λ K g. refl)
+
+station-closed-requires : tie.Need-station-closed-requires Inv-loop μ-loop
+station-closed-requires c κs =
+    let p = c .before .before .before .before .before .pre in
+    ((omega arith, omega arith, p .0 .1), p .1)
+
+returns-2 : tie.Need-returns-2 Inv-loop μ-loop
+returns-2 c = λ K g. wrong-station _ g (c .before .before .before .before .if1 .left) _ _ (c .before .station-closed .ensures K) (c .before .before .loop-test .taken) (c .if2 .taken)
+
+add-j : tie.Need-add-j Inv-loop μ-loop
+add-j c = search needs
+
+loop-less : tie.Need-loop-less Inv-loop μ-loop
+loop-less c = search needs
+
+loop-again : tie.Need-loop-again Inv-loop μ-loop
+loop-again c = (omega arith, λ K g. right-station _ g (c .before .before .before .before .if1 .left) _ _ (c .before .station-closed .ensures K) (c .before .before .before .loop .inv .1 K g) (c .if2 .left))
+
+returns-3 : tie.Need-returns-3 Inv-loop μ-loop
+returns-3 c = λ K g. all-right _ g (c .before .before .if1 .left) _ (c .before .loop .inv .0) (c .loop-test .left) (c .before .loop .inv .1 K g)
+
+pub consistent-spec : {M : Type 1} → statement M
+consistent-spec =
+    tie.close
+    (tie.spec
+    Inv-loop
+    μ-loop
+    returns
+    loop-holds
+    station-closed-requires
+    returns-2
+    add-j
+    loop-less
+    loop-again
+    returns-3)

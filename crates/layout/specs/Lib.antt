@@ -1,0 +1,3 @@
+pub mod Offsets
+pub mod Rows
+pub mod Loaded

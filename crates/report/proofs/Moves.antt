@@ -1,0 +1,56 @@
+-- Laws of loops that move cells within one slice.
+use mathlib.Core.Path.{_≡_, sym, ap, ap₂, _∙_}
+use Prim.Native.Nat.{ℕ, suc, _+_, _-_, _≤_, _<_}
+use native.Mathlib.Numerals.{add-one}
+use native.Mathlib.Omega.{arith}
+use mathlib.Core.List.{List, _∷_}
+use lib.ListN.{length, take, drop, getD, set, length-set, length-drop}
+use lib.Seq.{paste, paste-suc, drop-paste, slice, slice-cons, getD-drop, getD-take, getD-set-same, take-take, take-set-le, take-set-lt, drop-set-lt}
+
+-- DOWN
+
+module _ (w : List ℕ) (to from k : ℕ) (h : to ≤ from) (l : from + k < length w) where
+  -- What is read is not written yet.
+  down-reads : getD (paste w to (drop from w) k) (from + k) 0 ≡ getD (drop from w) k 0
+  down-reads =
+      let p = paste w to (drop from w) k in
+      let e : from + k ≡ to + k + (from - to) = omega arith in
+      let s : drop (to + k) p ≡ drop (to + k) w = drop-paste w to (drop from w) k (omega arith) (rw length-drop (omega arith)) in
+      ap (λ (i : ℕ). getD p i 0) e ∙ sym (getD-drop (to + k) p (from - to) 0) ∙ ap (λ (t : List ℕ). getD t (from - to) 0) s
+      ∙ getD-drop (to + k) w (from - to) 0 ∙ ap (λ (i : ℕ). getD w i 0) (sym e) ∙ sym (getD-drop from w k 0)
+
+  pub down-turn : (v : List ℕ) → v ≡ paste w to (drop from w) k → set v (to + k) (getD v (from + k) 0) ≡ paste w to (drop from w) (k + 1)
+  down-turn v e =
+      let g : getD v (from + k) 0 ≡ getD (drop from w) k 0 = ap (λ (t : List ℕ). getD t (from + k) 0) e ∙ down-reads in
+      rw (g, e, add-one k) (paste-suc w to (drop from w) k 0 (omega arith) (rw length-drop (omega arith)))
+
+-- UP
+
+-- The cells from k on have moved, and cell j is next.
+module _
+    (w v : List ℕ)
+    (j k end n : ℕ)
+    (s : k ≡ suc j)
+    (h : k ≤ end)
+    (l : end + n ≤ length w)
+    (same : length v ≡ length w)
+    (front : take k v ≡ take k w)
+  where
+    pub up-front : take j (set v (j + n) (getD v j 0)) ≡ take j w
+    up-front =
+        take-set-le j v (j + n) (getD v j 0) (omega arith) ∙ sym (take-take j k v (omega arith)) ∙ ap (take j) front ∙ take-take j k w (omega arith)
+
+    up-reads : getD v j 0 ≡ getD w j 0
+    up-reads = sym (getD-take k v j 0 (omega arith)) ∙ ap (λ (t : List ℕ). getD t j 0) front ∙ getD-take k w j 0 (omega arith)
+
+    pub up-back : slice (k + n) (end + n) v ≡ slice k end w → slice (j + n) (end + n) (set v (j + n) (getD v j 0)) ≡ slice j end w
+    up-back back =
+        let x = getD v j 0 in
+        let p : suc (j + n) ≡ k + n = omega arith in
+        let q : suc j ≡ k = omega arith in
+        slice-cons (j + n) (end + n) (set v (j + n) x) 0 (omega arith) (rw (length-set v (j + n) x) (omega arith))
+        ∙ ap₂ (λ (a : ℕ) (t : List ℕ). a ∷ t)
+        (getD-set-same v (j + n) x 0 (omega arith) ∙ up-reads)
+        (ap (drop (suc (j + n))) (take-set-lt (end + n) v (j + n) x (omega arith)) ∙ drop-set-lt (suc (j + n)) (take (end + n) v) (j + n) x (omega arith)
+        ∙ ap (λ (i : ℕ). slice i (end + n) v) p ∙ back ∙ ap (λ (i : ℕ). slice i end w) (sym q))
+        ∙ sym (slice-cons j end w 0 (omega arith) (omega arith))

@@ -1,0 +1,18 @@
+-- `report::starts` meets its contract: the first n of eight zeros are the cut that holds no event.
+use lib.ListN.{take}
+use Rattle.report.proofs.Standing.{belongs-empty}
+use borrow.Author.Needs.{needs}
+use Rattle.report.proofs.starts.Statement.{statement}
+use Rattle.report.proofs.starts.Tie as tie
+
+belongs-any-requires : tie.Need-belongs-any-requires
+belongs-any-requires c κs = search needs
+
+returns : tie.Need-returns
+returns c =
+    let s = c .before .before .before .before in
+    let a = s .args in
+    belongs-empty (a .n) (a .count) (take (a .n) (a .counts .now)) (a .ws .now) (a .bs .now) (s .pre .0 .few-stations) (c .belongs-any .ensures)
+
+pub starts-spec : {M : Type 1} → statement M
+starts-spec = tie.close (tie.spec belongs-any-requires returns)

@@ -1,0 +1,284 @@
+// From a basis that stands in a workspace to the answer: whether a cut belongs, the listed cuts in order, the answer's line.
+ghost use mathlib.Core.Path.{_≡_};
+ghost use mathlib.Core.List.{List, _∷_, _++_, map};
+ghost use Prim.Native.Nat.{ℕ, _+_, _*_, _-_, _≤_, _<_};
+ghost use lib.ListN.{length, take, drop};
+ghost use lib.Seq.{paste, slice};
+ghost use Rattle.model.specs.Lists.{total};
+ghost use Rattle.model.specs.Formula.{Formula};
+ghost use Rattle.model.specs.Cut.{empty, insideAny};
+ghost use Rattle.model.specs.Computation.{Computation, stations};
+ghost use Rattle.model.specs.Rules.{asTrue};
+ghost use Rattle.model.specs.Structure.{greatest, belongsAny};
+ghost use Rattle.model.specs.Basis.{basis};
+ghost use Rattle.model.specs.Rounds.{rounds as basisRounds};
+ghost use Rattle.model.specs.Answer.{notInside, tops, precedes, insert, sort, answer, yesNo, fourBytes, answerLine, refusalLine};
+ghost use Rattle.structure.specs.Layout.{standing};
+ghost use Rattle.structure.specs.Stations.{Stations};
+ghost use Rattle.wire.specs.Put.{putOf};
+ghost use Rattle.report.specs.Cuts.{cutsAt, added};
+ghost use Rattle.report.specs.Stands.{Stands};
+ghost use Rattle.report.specs.Written.{Written};
+
+// Is a cut contained in one of the cuts?
+pub fn in_one(cut: &[u8], cuts: &[u8], count: usize, n: usize) -> bool
+    requires { ⌜ (n ≤ length (now cut)) × (count * n ≤ length (now cuts)) ⌝ }
+    ensures { λ r. ⌜ r ≡ insideAny (take n (now (cut .entry))) (cutsAt n count (now (cuts .entry))) ⌝ }
+{
+    let mut i = 0;
+    while i < count {
+        if structure::contained(cut, 0, cuts, i * n, n) {
+            return true;
+        }
+        i += 1;
+    }
+    false
+}
+
+// The n cells at a place, copied down to another.
+pub fn move_down(cells: &mut [u8], to: usize, from: usize, n: usize)
+    requires { ⌜ (to ≤ from) × (from + n ≤ length (now cells)) ⌝ }
+    ensures { λ _. ⌜ now (cells .exit) ≡ paste (now (cells .entry)) to (drop from (now (cells .entry))) n ⌝ }
+{
+    let mut k = 0;
+    while k < n {
+        cells[to + k] = cells[from + k];
+        k += 1;
+    }
+}
+
+// The cuts that are contained in a cut go, and the others close up.
+pub fn take_out(cut: &[u8], cuts: &mut [u8], count: usize, n: usize) -> usize
+    requires { ⌜ (n ≤ length (now cut)) × (count * n ≤ length (now cuts)) ⌝ }
+    ensures { λ r. ⌜ (r ≤ count) × (cutsAt n r (now (cuts .exit)) ≡ notInside (take n (now (cut .entry))) (cutsAt n count (now (cuts .entry)))) ⌝ }
+{
+    let mut left = 0;
+    let mut i = 0;
+    while i < count {
+        if !structure::contained(cuts, i * n, cut, 0, n) {
+            move_down(cuts, left * n, i * n, n);
+            left += 1;
+        }
+        i += 1;
+    }
+    left
+}
+
+// Does a cut stand before the cut at a place? Station 0 decides first.
+pub fn precedes(cut: &[u8], cuts: &[u8], at: usize, n: usize) -> bool
+    requires { ⌜ (n ≤ length (now cut)) × (at + n ≤ length (now cuts)) ⌝ }
+    ensures { λ r. ⌜ r ≡ precedes (take n (now (cut .entry))) (take n (drop at (now (cuts .entry)))) ⌝ }
+{
+    let mut j = 0;
+    while j < n {
+        if cut[j] < cuts[at + j] {
+            return true;
+        }
+        if cuts[at + j] < cut[j] {
+            return false;
+        }
+        j += 1;
+    }
+    false
+}
+
+// The number of cuts that a cut stands behind.
+pub fn place(cut: &[u8], cuts: &[u8], count: usize, n: usize) -> usize
+    requires { ⌜ (n ≤ length (now cut)) × (count * n ≤ length (now cuts)) ⌝ }
+    ensures { λ r. ⌜ (r ≤ count) × (insert (take n (now (cut .entry))) (cutsAt n count (now (cuts .entry))) ≡ cutsAt n r (now (cuts .entry)) ++ (take n (now (cut .entry)) ∷ cutsAt n (count - r) (drop (r * n) (now (cuts .entry))))) ⌝ }
+{
+    let mut i = 0;
+    while i < count {
+        if precedes(cut, cuts, i * n, n) {
+            return i;
+        }
+        i += 1;
+    }
+    i
+}
+
+// The cells from a place up to an end, moved up by n, the last first.
+pub fn shift_up(cells: &mut [u8], from: usize, end: usize, n: usize)
+    requires { ⌜ (from ≤ end) × (end + n ≤ length (now cells)) ⌝ }
+    ensures { λ _. ⌜ (take from (now (cells .exit)) ≡ take from (now (cells .entry))) × (slice (from + n) (end + n) (now (cells .exit)) ≡ slice from end (now (cells .entry))) ⌝ }
+{
+    let mut k = end;
+    while from < k {
+        k -= 1;
+        cells[k + n] = cells[k];
+    }
+}
+
+// One more cut, at the place of one of them or behind the last.
+pub fn insert_at(cuts: &mut [u8], cut: &[u8], place: usize, count: usize, n: usize)
+    requires { ⌜ (n ≤ length (now cut)) × (place ≤ count) × ((count + 1) * n ≤ length (now cuts)) ⌝ }
+    ensures { λ _. ⌜ cutsAt n (count + 1) (now (cuts .exit)) ≡ cutsAt n place (now (cuts .entry)) ++ (take n (now (cut .entry)) ∷ cutsAt n (count - place) (drop (place * n) (now (cuts .entry)))) ⌝ }
+{
+    shift_up(cuts, place * n, count * n, n);
+    structure::put_cut(cuts, place * n, n, cut);
+}
+
+// One more cut among cuts none of which contains another: no change if one contains it, else those that it contains go.
+pub fn add_cut(cuts: &mut [u8], count: usize, n: usize, cut: &[u8]) -> usize
+    requires { ⌜ (0 < n) × (n ≤ length (now cut)) × ((count + 1) * n ≤ length (now cuts)) ⌝ }
+    ensures { λ r. ⌜ (r ≤ count + 1) × (cutsAt n r (now (cuts .exit)) ≡ added (take n (now (cut .entry))) (cutsAt n count (now (cuts .entry)))) ⌝ }
+{
+    if in_one(cut, cuts, count, n) {
+        return count;
+    }
+    let left = take_out(cut, cuts, count, n);
+    let at = place(cut, cuts, left, n);
+    insert_at(cuts, cut, at, left, n);
+    left + 1
+}
+
+// The greatest cuts of the structures, the last first: those contained in no other, in order.
+pub fn list_cuts(ws: &[u8], count: usize, n: usize, e: usize, cuts: &mut [u8]) -> usize
+    requires { ⌜ (0 < n) × (n ≤ 8) × (count * ((e + 1) * n) ≤ length (now ws)) × (count * n ≤ length (now cuts)) ⌝ }
+    ensures { λ r. ⌜ (r ≤ count) × ((counts bs : List ℕ) → total counts ≡ e → cutsAt n r (now (cuts .exit)) ≡ sort (tops (map greatest (standing n counts count (now (ws .entry)) bs)))) ⌝ }
+{
+    let mut cut = [0u8; 8];
+    let mut listed = 0;
+    let mut i = count;
+    while 0 < i {
+        i -= 1;
+        let at = i * ((e + 1) * n);
+        structure::greatest(ws, at, n, e, &mut cut);
+        listed = add_cut(cuts, listed, n, &cut);
+    }
+    listed
+}
+
+// Does a cut belong to one of the structures?
+pub fn belongs_any(
+    ws: &[u8],
+    bs: &[u8],
+    count: usize,
+    n: usize,
+    e: usize,
+    counts: &[u8; 8],
+    offs: &[u8; 8],
+    cut: &[u8; 8],
+) -> bool
+    requires { ⌜ Stations n (now counts) (now offs) ⌝ }
+    requires { ⌜ Stands n e (now counts) count (now ws) (now bs) ⌝ }
+    requires { ⌜ length (now cut) ≡ 8 ⌝ }
+    ensures { λ r. ⌜ r ≡ belongsAny (standing n (take n (now (counts .entry))) count (now (ws .entry)) (now (bs .entry))) (take n (now (cut .entry))) ⌝ }
+{
+    let mut i = 0;
+    while i < count {
+        let at = i * ((e + 1) * n);
+        let bar = i * (16 * n);
+        if structure::belongs(ws, at, bs, bar, n, counts, offs, cut) {
+            return true;
+        }
+        i += 1;
+    }
+    false
+}
+
+// Does the cut that holds no event belong to one of the structures?
+pub fn starts(
+    ws: &[u8],
+    bs: &[u8],
+    count: usize,
+    n: usize,
+    e: usize,
+    counts: &[u8; 8],
+    offs: &[u8; 8],
+) -> bool
+    requires { ⌜ Stations n (now counts) (now offs) ⌝ }
+    requires { ⌜ Stands n e (now counts) count (now ws) (now bs) ⌝ }
+    ensures { λ r. ⌜ r ≡ belongsAny (standing n (take n (now (counts .entry))) count (now (ws .entry)) (now (bs .entry))) (empty n) ⌝ }
+{
+    let cut = [0u8; 8];
+    belongs_any(ws, bs, count, n, e, counts, offs, &cut)
+}
+
+// 01 for yes, 00 for no.
+pub fn yes_no(b: bool) -> u8
+    ensures { λ r. ⌜ r ≡ yesNo b ⌝ }
+{
+    if b { 1 } else { 0 }
+}
+
+// A number in four bytes, high byte first.
+pub fn put_four(v: u32, out: &mut [u8], at: usize)
+    requires { ⌜ at + 4 ≤ length (now out) ⌝ }
+    ensures { λ _. ⌜ now (out .exit) ≡ putOf (now (out .entry)) at (fourBytes v) ⌝ }
+{
+    out[at] = (v / 16777216 % 256) as u8;
+    out[at + 1] = (v / 65536 % 256) as u8;
+    out[at + 2] = (v / 256 % 256) as u8;
+    out[at + 3] = (v % 256) as u8;
+}
+
+// The answer's frame into an array; hands back its length.
+pub fn put_frame(
+    start: bool,
+    cuts: &[u8],
+    count: usize,
+    n: usize,
+    rounds: u32,
+    frame: &mut [u8],
+) -> usize
+    requires { ⌜ (count ≤ 16) × (n ≤ 8) × (count * n ≤ length (now cuts)) × (length (now frame) ≡ 135) ⌝ }
+    ensures { λ r. ⌜ (r ≤ 135) × (take r (now (frame .exit)) ≡ 0x40 ∷ yesNo start ∷ count ∷ (take (count * n) (now (cuts .entry)) ++ fourBytes rounds)) ⌝ }
+{
+    let end = count * n;
+    frame[0] = 0x40;
+    frame[1] = yes_no(start);
+    frame[2] = count as u8;
+    structure::put_cut(frame, 3, end, cuts);
+    put_four(rounds, frame, end + 3);
+    end + 7
+}
+
+// The answer's line at the front of `out`; hands back its length.
+pub fn put_answer(
+    start: bool,
+    cuts: &[u8],
+    count: usize,
+    n: usize,
+    rounds: u32,
+    out: &mut [u8],
+) -> usize
+    requires { ⌜ (count ≤ 16) × (n ≤ 8) × (count * n ≤ length (now cuts)) × (273 ≤ length (now out)) ⌝ }
+    ensures { λ r. ⌜ Written (answerLine (record { start = start; cuts = cutsAt n count (now (cuts .entry)); rounds = rounds })) r (now (out .entry)) (now (out .exit)) ⌝ }
+{
+    let mut frame = [0u8; 135];
+    let end = put_frame(start, cuts, count, n, rounds, &mut frame);
+    wire::put_line(&frame[..end], out, 0)
+}
+
+// The refusal's line at the front of `out`; hands back its length.
+pub fn put_refusal(number: u8, line: usize, out: &mut [u8]) -> usize
+    requires { ⌜ (line < 65536) × (11 ≤ length (now out)) ⌝ }
+    ensures { λ r. ⌜ Written (refusalLine number line) r (now (out .entry)) (now (out .exit)) ⌝ }
+{
+    let frame = [0x50, number, (line / 256) as u8, (line % 256) as u8];
+    wire::put_line(&frame, out, 0)
+}
+
+// The answer's line of the basis that stands in the workspace, at the front of `out`; hands back its length.
+pub fn write_answer(
+    ws: &[u8],
+    bs: &[u8],
+    count: usize,
+    n: usize,
+    e: usize,
+    counts: &[u8; 8],
+    offs: &[u8; 8],
+    rounds: u32,
+    out: &mut [u8],
+) -> usize
+    requires { ⌜ Stations n (now counts) (now offs) ⌝ }
+    requires { ⌜ Stands n e (now counts) count (now ws) (now bs) ⌝ }
+    requires { ⌜ (count ≤ 16) × (273 ≤ length (now out)) ⌝ }
+    ensures { λ r. ⌜ ((K : Computation) (f : Formula) → stations K ≡ n → standing n (take n (now (counts .entry))) count (now (ws .entry)) (now (bs .entry)) ≡ basis K (asTrue f) → rounds ≡ basisRounds K (asTrue f) → Written (answerLine (answer K f)) r (now (out .entry)) (now (out .exit))) ⌝ }
+{
+    let start = starts(ws, bs, count, n, e, counts, offs);
+    let mut cuts = [0u8; 128];
+    let listed = list_cuts(ws, count, n, e, &mut cuts);
+    put_answer(start, &cuts, listed, n, rounds, out)
+}
