@@ -1,0 +1,243 @@
+"""Document 01 by a plain listing of every consistent cut: slow, small, and sharing no code with the product.
+
+A log is read with the refusals of document 01 in its order. A set of cuts is the list of its cuts, so raising a cut is a search
+through that list; rounds are counted over such sets.
+"""
+from itertools import product
+
+STATIONS, EVENTS, QUESTIONS, LOG, LIST = 8, 127, 16, 8192, 4096
+DIGITS = b"0123456789ABCDEF"
+
+
+class Refused(Exception):
+    def __init__(self, number, line=0):
+        self.number, self.line = number, line
+
+
+def encode(frame):
+    """A frame's line, with its check byte."""
+    full = bytes(frame) + bytes([-sum(frame) % 256])
+    return full.hex().upper().encode() + b"\n"
+
+
+class Log:
+    """What has been read so far."""
+
+    def __init__(self):
+        self.initial, self.history, self.questions, self.frames = None, [], [], []
+
+    def events(self):
+        return sum(map(len, self.history))
+
+    def value(self, s, k):
+        return self.history[s][k - 1][0] if k else self.initial[s]
+
+    def clock(self, s, k):
+        return self.history[s][k - 1][1] if k else (0,) * len(self.initial)
+
+
+def contained(c, d):
+    return all(x <= y for x, y in zip(c, d))
+
+
+def parse(q, at=0):
+    """The formula at a place of a question, and where it ends; None where there is none."""
+    if at >= len(q):
+        return None
+    t = q[at]
+    if t == 1:
+        if at + 6 > len(q):
+            return None
+        return (1, q[at + 1], q[at + 2] * 256 + q[at + 3], q[at + 4] * 256 + q[at + 5]), at + 6
+    operands, at = [], at + 1
+    for _ in range({2: 1, 3: 2, 4: 2, 5: 1, 6: 1}.get(t, 0)):
+        got = parse(q, at)
+        if got is None:
+            return None
+        operands.append(got[0])
+        at = got[1]
+    return ((t, *operands), at) if operands else None
+
+
+def atoms(f):
+    return [f] if f[0] == 1 else [a for g in f[1:] for a in atoms(g)]
+
+
+def tokens(f):
+    return 1 if f[0] == 1 else 1 + sum(map(tokens, f[1:]))
+
+
+def joined_as(t, sign):
+    """What a token comes to under a sign."""
+    if t in (3, 4):
+        return "and" if (t == 3) == sign else "or"
+    return "possibly" if (t == 5) == sign else "not possibly"
+
+
+def size(f, sign, seen):
+    """Width and bar count under a sign; seen gathers those of every token."""
+    t = f[0]
+    if t == 1:
+        w, b = 1, 0
+    elif t == 2:
+        w, b = size(f[1], not sign, seen)
+    elif t in (3, 4):
+        (wl, bl), (wr, br) = size(f[1], sign, seen), size(f[2], sign, seen)
+        w, b = (wl * wr, bl + br) if joined_as(t, sign) == "and" else (wl + wr, max(bl, br))
+    else:
+        w, b = size(f[1], t == 5, seen)
+        w, b = (w, 0) if joined_as(t, sign) == "possibly" else (1, w)
+    seen.append((w, b))
+    return w, b
+
+
+def admit(log, f):
+    """Takes one frame in, or raises its number."""
+    kind, body = f[0], f[1:]
+    n = len(log.initial) if log.initial is not None else 0
+    if kind == 0x10:
+        if log.initial is not None:
+            raise Refused(4)
+        if not body or not 1 <= body[0] <= STATIONS or len(body) != 1 + 2 * body[0]:
+            raise Refused(5)
+        log.initial = [body[1 + 2 * i] * 256 + body[2 + 2 * i] for i in range(body[0])]
+        log.history = [[] for _ in log.initial]
+    elif kind == 0x20:
+        if log.initial is None or log.questions or log.events() >= EVENTS:
+            raise Refused(4)
+        if len(body) != 3 + n or body[0] >= n:
+            raise Refused(6)
+        s, clock = body[0], tuple(body[3:])
+        if clock[s] != len(log.history[s]) + 1:
+            raise Refused(7)
+        for j in range(n):
+            k = clock[j] - (j == s)
+            if k > len(log.history[j]) or not contained(log.clock(j, k), clock):
+                raise Refused(7)
+        log.history[s].append((body[1] * 256 + body[2], clock))
+    elif kind == 0x30:
+        if log.initial is None or len(log.questions) >= QUESTIONS:
+            raise Refused(4)
+        got = parse(body)
+        if got is None or got[1] != len(body) or any(a[1] >= n or a[2] > a[3] for a in atoms(got[0])):
+            raise Refused(8)
+        seen = []
+        size(got[0], True, seen)
+        if tokens(got[0]) > 32 or len(atoms(got[0])) > 12 or any(w > 16 or b > 16 for w, b in seen):
+            raise Refused(9)
+        log.questions.append(got[0])
+    else:
+        raise Refused(4)
+    log.frames.append(bytes(f))
+
+
+def read(data):
+    """The log, or the first fault in document 01's order."""
+    if len(data) > LOG:
+        raise Refused(1)
+    log, lines = Log(), data.split(b"\n")
+    last = lines.pop()
+    if last:
+        lines.append(None)
+    for number, line in enumerate(lines, 1):
+        try:
+            if line is None or len(line) % 2 or not 4 <= len(line) <= 200 or any(c not in DIGITS for c in line):
+                raise Refused(2)
+            frame = bytes.fromhex(line.decode())
+            if sum(frame) % 256:
+                raise Refused(3)
+            admit(log, frame[:-1])
+        except Refused as r:
+            raise Refused(r.number, number) from None
+    if not lines:
+        raise Refused(4, 1)
+    return log
+
+
+class Listing:
+    """All consistent cuts of a log, and truth at each."""
+
+    def __init__(self, log):
+        self.log, n = log, len(log.initial)
+        self.cuts = [c for c in product(*(range(len(h) + 1) for h in log.history))
+                     if all(contained(log.clock(j, c[j]), c) for j in range(n))]
+        self.starts = [(0,) * n] + [e[1] for h in log.history for e in h]
+        self.empty = self.starts[0]
+        self.rounds = 0
+
+    def true(self, f):
+        """The cuts at which a formula is true."""
+        t = f[0]
+        if t == 1:
+            return [c for c in self.cuts if f[2] <= self.log.value(f[1], c[f[1]]) <= f[3]]
+        one = set(self.true(f[1]))
+        if t == 2:
+            return [c for c in self.cuts if c not in one]
+        if t in (3, 4):
+            two = set(self.true(f[2]))
+            return [c for c in self.cuts if (c in one and c in two if t == 3 else c in one or c in two)]
+        if t == 5:
+            return [c for c in self.cuts if any(contained(c, d) for d in one)]
+        return [c for c in self.cuts if all(d in one for d in self.cuts if contained(c, d))]
+
+    def raised(self, cuts, c):
+        """The least cut of a set that contains c, or None."""
+        above = [d for d in cuts if contained(c, d)]
+        return next((d for d in above if all(contained(d, e) for e in above)), None)
+
+    def kept(self, cuts, bars):
+        """A structure, as the list of its cuts with its bars, unless it is dropped."""
+        if not cuts:
+            return []
+        top = next(d for d in cuts if all(contained(e, d) for e in cuts))
+        return [] if any(contained(top, b) for b in bars) else [(cuts, bars, top)]
+
+    def pair(self, left, right):
+        for c in self.starts:
+            while True:
+                self.rounds += 1
+                d = self.raised(left[0], c)
+                d = d and self.raised(right[0], d)
+                if d is None or d == c:
+                    break
+                c = d
+        both = set(right[0])
+        return self.kept([c for c in left[0] if c in both], left[1] + right[1])
+
+    def basis(self, f, sign):
+        t = f[0]
+        if t == 1:
+            return self.kept([c for c in self.cuts if (f[2] <= self.log.value(f[1], c[f[1]]) <= f[3]) == sign], [])
+        if t == 2:
+            return self.basis(f[1], not sign)
+        if t in (3, 4):
+            left, right = self.basis(f[1], sign), self.basis(f[2], sign)
+            if joined_as(t, sign) == "or":
+                return left + right
+            return [s for x in left for y in right for s in self.pair(x, y)]
+        operand = self.basis(f[1], t == 5)
+        if joined_as(t, sign) == "possibly":
+            return [s for x in operand for s in self.kept([c for c in self.cuts if contained(c, x[2])], [])]
+        return self.kept(self.cuts, [x[2] for x in operand])
+
+    def answer(self, f):
+        """Start, the maximal cuts in order, rounds."""
+        true = self.true(f)
+        listed = sorted(c for c in true if not any(c != d and contained(c, d) for d in true))
+        self.rounds = 0
+        self.basis(f, True)
+        return self.empty in true, listed, self.rounds
+
+
+def answer_line(start, cuts, rounds):
+    return encode([0x40, int(start), len(cuts)] + [k for c in cuts for k in c] + list(rounds.to_bytes(4, "big")))
+
+
+def printed(data):
+    """What the program prints for an input."""
+    try:
+        log = read(data)
+    except Refused as r:
+        return encode([0x50, r.number, r.line // 256, r.line % 256])
+    listing = Listing(log)
+    return b"".join(answer_line(*listing.answer(f)) for f in log.questions)
