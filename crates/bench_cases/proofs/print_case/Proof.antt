@@ -1,0 +1,44 @@
+-- `bench_cases::print_case`: what is written is a part of what `run` filled. Assumes nothing.
+use mathlib.Core.Path.{sym}
+use native.Mathlib.Omega.{arith}
+use lib.Seq.{length-take-le}
+use borrow.Author.Needs.{needs}
+use Rattle.bench_cases.proofs.print_case.Statement.{statement}
+use Rattle.bench_cases.proofs.print_case.Tie as tie
+
+slice-aggregate-write-all : tie.Need-slice-aggregate-write-all
+slice-aggregate-write-all c = search needs
+
+write-all-requires : tie.Need-write-all-requires
+write-all-requires c κs = search needs
+
+slice-aggregate-run : tie.Need-slice-aggregate-run
+slice-aggregate-run c = search needs
+
+run-requires : tie.Need-run-requires
+run-requires c κs = search needs
+
+array-share-prefix-out : tie.Need-array-share-prefix-out
+array-share-prefix-out c = search needs
+
+slice-aggregate-write-all-2 : tie.Need-slice-aggregate-write-all-2
+slice-aggregate-write-all-2 c = sym (length-take-le _ _ (omega (arith, c .before .before .run .ensures .0, c .before .before .run .kept .1 .0)))
+
+write-all-requires-2 : tie.Need-write-all-requires-2
+write-all-requires-2 c κs = search needs
+
+returns : tie.Need-returns
+returns c = search needs
+
+pub print-case-spec : {M : Type 1} → statement M
+print-case-spec =
+    tie.close
+    (tie.spec
+    slice-aggregate-write-all
+    write-all-requires
+    slice-aggregate-run
+    run-requires
+    array-share-prefix-out
+    slice-aggregate-write-all-2
+    write-all-requires-2
+    returns)

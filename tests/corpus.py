@@ -1,0 +1,166 @@
+#!/usr/bin/env python3
+"""Makes a corpus of small logs and what the program is to print for each, by a plain listing of every cut.
+
+Usage: corpus.py FOLDER [LOGS] [SEED]      writes FOLDER/stdin and FOLDER/stdout; the same arguments give the same bytes
+Logs have 1 to 4 stations, up to 8 events and questions nested up to 5 deep; about two in five are damaged in a way that document 01
+names. Each log, and each output, is closed by a line with a full stop; the last log has no end of line and so none.
+"""
+import pathlib
+import sys
+
+from listing import encode, printed
+
+LOGS, SEED = 4400, 20261115
+
+
+class Draw:
+    """Numbers from a seed, by a linear congruential rule of 64 bits."""
+
+    def __init__(self, seed):
+        self.state = seed
+
+    def below(self, n):
+        self.state = (self.state * 6364136223846793005 + 1442695040888963407) % 2**64
+        return (self.state >> 33) % n
+
+    def pick(self, items):
+        return items[self.below(len(items))]
+
+
+def word(v):
+    return [v // 256, v % 256]
+
+
+def atom(d, n, top):
+    lo = d.below(top)
+    return [1, d.below(n)] + word(lo) + word(lo + d.below(top - lo))
+
+
+def formula(d, n, depth, top=4):
+    """A formula's bytes, nested at most depth deep."""
+    t = d.pick([1, 1, 2, 3, 3, 4, 4, 5, 6]) if depth > 1 else 1
+    if t == 1:
+        return atom(d, n, top)
+    return [t] + [b for _ in range(2 if t in (3, 4) else 1) for b in formula(d, n, depth - 1, top)]
+
+
+def moments(d, seen):
+    """Two to four ways, each with one value that was seen at every station."""
+    ways = []
+    for _ in range(2 + d.below(2 if len(seen) == 4 else 3)):
+        ways.append([3] * (len(seen) - 1) + [b for s, vs in enumerate(seen) for b in [1, s] + word(d.pick(vs)) * 2])
+    return [4] * (len(ways) - 1) + [b for w in ways for b in w]
+
+
+def question(d, seen):
+    return moments(d, seen) if d.below(3) == 0 else formula(d, len(seen), 1 + d.below(5))
+
+
+def frames(d):
+    """Header, events and questions of a valid computation; a question may be too large."""
+    n, events = 1 + d.below(4), d.below(9)
+    seen = [[d.below(4)] for _ in range(n)]
+    out = [[0x10, n] + [b for vs in seen for b in word(vs[0])]]
+    last = [[0] * n for _ in range(n)]
+    for _ in range(events):
+        s = d.below(n)
+        clock = list(last[s])
+        if d.below(3) == 0:
+            clock = [max(a, b) for a, b in zip(clock, last[d.below(n)])]
+        clock[s] = last[s][s] + 1
+        last[s] = clock
+        seen[s].append(d.below(4))
+        out.append([0x20, s] + word(seen[s][-1]) + clock)
+    return out + [[0x30] + question(d, seen) for _ in range(1 + d.below(3))]
+
+
+def wide(d, n):
+    """Two- and three-way ors joined by and, some with bars: about the width and bar limits."""
+    q = formula(d, n, 1)
+    for _ in range(1 + d.below(3)):
+        part = formula(d, n, 1)
+        for _ in range(d.below(3)):
+            part = [4] + part + formula(d, n, 1)
+        q = [3] + q + (part if d.below(2) else [6, 2] + part)
+    return q
+
+
+def damaged(d, fs):
+    """Frames with one of them changed, taken out, doubled or moved; lines are made of them with good check bytes."""
+    fs, i = [list(f) for f in fs], d.below(len(fs))
+    f, n = fs[i], fs[0][1]
+    way = d.below(14)
+    if way == 0:
+        fs.insert(d.below(len(fs) + 1), list(f))
+    elif way == 1:
+        del fs[i]
+    elif way == 2:
+        fs.insert(d.below(len(fs)), fs.pop(i))
+    elif way == 3:
+        f[0] = d.below(256)
+    elif way == 4:
+        f[d.below(len(f))] = d.below(256)
+    elif way == 5:
+        f.append(d.below(256))
+    elif way == 6 and len(f) > 1:
+        f.pop()
+    elif way == 7 and f[0] == 0x20:
+        j = 4 + d.below(n)
+        f[j] = (f[j] + d.pick([1, 255, 2])) % 256
+    elif way == 8 and f[0] == 0x20:
+        f[1] = n
+    elif way == 9:
+        fs[0][1] = d.pick([0, 9, n + 1])
+    elif way == 10:
+        fs.append([0x30] + [2] * d.pick([31, 32, 40, 60]) + atom(d, n, 4))
+    elif way == 11:
+        fs.append([0x30] + [d.pick([3, 4])] * 12 + [b for _ in range(13) for b in atom(d, n, 4)])
+    elif way == 12:
+        fs += [[0x30] + atom(d, n, 4) for _ in range(d.pick([13, 14, 15, 16]))]
+    else:
+        fs.append([0x30] + wide(d, n))
+    return fs
+
+
+def spoiled(d, log):
+    """The log's bytes with one of them changed, added or taken out; the last line keeps its end."""
+    log, i = bytearray(log), d.below(len(log) - 1)
+    way = d.below(5)
+    if way == 0:
+        log[i] = d.pick(b"0123456789ABCDEFabcdef\n\r G")
+    elif way == 1:
+        del log[i]
+    elif way == 2:
+        log.insert(i, d.pick(b"0F\n"))
+    elif way == 3:
+        del log[i:-1]
+    else:
+        log += b"00" * d.pick([1, 2, 50, 100, 101]) + b"\n"
+    return bytes(log)
+
+
+def logs(count, seed):
+    d = Draw(seed)
+    yield b""
+    yield b"\n"
+    yield b"0" * 8192 + b"\n"
+    yield encode([0x10, 1, 0, 0]) * 3
+    for _ in range(count - 5):
+        fs, way = frames(d), d.below(10)
+        if way < 3:
+            fs = damaged(d, fs)
+        log = b"".join(map(encode, fs))
+        yield spoiled(d, log) if way == 9 else log
+    yield encode([0x10, 1, 0, 0])[:-1]
+
+
+def main():
+    folder = pathlib.Path(sys.argv[1])
+    count = int(sys.argv[2]) if len(sys.argv) > 2 else LOGS
+    seed = int(sys.argv[3]) if len(sys.argv) > 3 else SEED
+    made = list(logs(count, seed))
+    (folder / "stdin").write_bytes(b".\n".join(made))
+    (folder / "stdout").write_bytes(b"".join(printed(log) + b".\n" for log in made))
+
+
+main()

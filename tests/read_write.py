@@ -1,0 +1,174 @@
+#!/usr/bin/env python3
+"""Makes the cases of Read and Write about document 01's limits and refusals, and what is to come of each.
+
+Usage: read_write.py FOLDER      writes FOLDER/stdin and FOLDER/stdout
+"""
+import pathlib
+import sys
+
+from listing import LIST, LOG, Log, Refused, admit, encode, read
+
+
+def word(v):
+    return [v // 256, v % 256]
+
+
+def atom(s=0, lo=0, hi=1):
+    return [1, s] + word(lo) + word(hi)
+
+
+HEADER = [0x10, 2, 0, 0, 0, 0]
+EVENT = [0x20, 0, 0, 5, 1, 0]
+QUESTION = [0x30] + atom()
+OR2, OR3 = [4] + atom() * 2, [4, 4] + atom() * 3
+
+
+def chain(k):
+    """k events of station 0 of one."""
+    return [[0x20, 0, 0, i % 4, i + 1] for i in range(k)]
+
+
+ONE = [0x10, 1, 0, 0]
+EIGHT = [0x10, 8] + [0, 7] * 8
+
+
+def largest(extra=b""):
+    """The longest accepted log: eight stations, 127 events, 16 questions of 32 tokens, 12 of them 01."""
+    events, clock = [], [0] * 8
+    for i in range(127):
+        clock[i % 8] += 1
+        events.append([0x20, i % 8, 1, 0] + clock)
+    question = [0x30] + [2] * 9 + [3] * 11 + atom(7, 1, 65535) * 12
+    return [EIGHT] + events + [question] * 16
+
+
+# Frames that are refused at their last one, and some that are accepted.
+FRAMES = {
+    "bench": [HEADER, EVENT, [0x20, 1, 0, 1, 0, 1], [0x20, 1, 0, 2, 1, 2], [0x30, 3] + atom(0, 5, 5) + atom(1, 1, 1)],
+    "header alone": [HEADER],
+    "nothing": [],
+    "unknown kind": [HEADER, [0x60, 1]],
+    "second header": [HEADER, HEADER],
+    "event first": [EVENT],
+    "question first": [QUESTION],
+    "event after a question": [HEADER, QUESTION, EVENT],
+    "no stations": [[0x10, 0]],
+    "nine stations": [[0x10, 9] + [0, 0] * 9],
+    "eight stations": [EIGHT],
+    "header of one byte": [[0x10]],
+    "header too short": [HEADER[:-1]],
+    "header too long": [HEADER + [0]],
+    "event of one byte": [HEADER, [0x20]],
+    "event too short": [HEADER, EVENT[:-1]],
+    "event too long": [HEADER, EVENT + [0]],
+    "station not there": [HEADER, [0x20, 2, 0, 5, 1, 0]],
+    "own entry 0": [HEADER, [0x20, 0, 0, 5, 0, 0]],
+    "own entry 2": [HEADER, [0x20, 0, 0, 5, 2, 0]],
+    "other entry too high": [HEADER, [0x20, 0, 0, 5, 1, 1]],
+    "clock below the one before": [HEADER, [0x20, 1, 0, 1, 0, 1], [0x20, 0, 0, 1, 1, 1], [0x20, 0, 0, 1, 2, 0]],
+    "clock below one that it counts": [[0x10, 3] + [0] * 6, [0x20, 0, 0, 1, 1, 0, 0], [0x20, 1, 0, 1, 1, 1, 0], [0x20, 2, 0, 1, 0, 1, 1]],
+    "clock good": [[0x10, 3] + [0] * 6, [0x20, 0, 0, 1, 1, 0, 0], [0x20, 1, 0, 1, 1, 1, 0], [0x20, 2, 0, 1, 1, 1, 1]],
+    "question of one byte": [HEADER, [0x30]],
+    "unknown token": [HEADER, [0x30, 7]],
+    "short operand": [HEADER, [0x30] + atom()[:-1]],
+    "trailing byte": [HEADER, QUESTION + [0]],
+    "one operand for and": [HEADER, [0x30, 3] + atom()],
+    "station of 01 not there": [HEADER, [0x30] + atom(2)],
+    "lo above hi": [HEADER, [0x30] + atom(0, 2, 1)],
+    "lo above hi by its low byte": [HEADER, [0x30] + atom(0, 257, 256)],
+    "lo equal to hi": [HEADER, [0x30] + atom(1, 256, 256)],
+    "32 tokens": [HEADER, [0x30] + [2] * 31 + atom()],
+    "33 tokens": [HEADER, [0x30] + [2] * 32 + atom()],
+    "40 nots and a bad token": [HEADER, [0x30] + [2] * 40 + [9]],
+    "12 tokens 01": [HEADER, [0x30] + [4] * 11 + atom() * 12],
+    "13 tokens 01": [HEADER, [0x30] + [4] * 12 + atom() * 13],
+    "width 16": [HEADER, [0x30, 3, 3] + OR2 + OR2 + [3] + OR2 + OR2],
+    "width 18": [HEADER, [0x30, 3, 3] + OR3 + OR3 + OR2],
+    "width 18 as false": [HEADER, [0x30, 2, 4, 4, 3, 3] + atom() * 3 + [3, 3] + atom() * 3 + [3] + atom() * 2],
+    "width 18 below possibly": [HEADER, [0x30, 5, 3, 3] + OR3 + OR3 + OR2],
+    "width 18 of the other sign": [HEADER, [0x30, 2, 3, 3] + OR3 + OR3 + OR2],
+    "bars 12": [HEADER, [0x30, 3, 6, 2] + [4] * 5 + atom() * 6 + [6, 2] + [4] * 5 + atom() * 6],
+    "bars 18": [HEADER, [0x30, 3, 6, 2, 3] + OR3 + OR3 + [6, 2, 3] + OR3 + OR3],
+    "127 events": [ONE] + chain(127),
+    "128 events": [ONE] + chain(128),
+    "128th event malformed": [ONE] + chain(127) + [[0x20]],
+    "16 questions": [HEADER] + [QUESTION] * 16,
+    "17 questions": [HEADER] + [QUESTION] * 17,
+    "17th question malformed": [HEADER] + [QUESTION] * 16 + [[0x30]],
+    "the longest": largest(),
+}
+
+GOOD = b"".join(map(encode, FRAMES["bench"]))
+
+# Logs whose bytes are at fault.
+LOGS = [
+    b"", b"\n", b"\n\n", GOOD[:-1], GOOD + b"\n", GOOD + b"0", GOOD.lower(), GOOD.replace(b"\n", b"\r\n", 1), GOOD + b"\0\n",
+    GOOD.replace(b"EE\n", b"EF\n", 1), GOOD.replace(b"DA\n", b"DB\n", 1), b"60A1\n", b"10F0\n", b"1\n", b"10\n", b"1 F0\n", b"10F\n",
+    b"0" * 200 + b"\n", b"0" * 202 + b"\n", b"0" * 201 + b"\n", b"0" * 8192, b"0" * 8193, b"G" * 8193, b"00\n" * 2730 + b"00",
+    b"".join(map(encode, [HEADER] + [[0x30] + atom()] * 16 + [[0x30]])), GOOD.replace(b"0A", b"0B"),
+    encode(HEADER) + encode(HEADER)[:-3] + b"00\n", encode([0x60])[:-3] + b"00\n",
+]
+
+# Frame lists at fault.
+LISTS = [
+    [], [0], [100] + [0] * 100, [5, 0x10, 1], [1, 0x10], [1], [4, 0x10, 1, 0, 0, 0], [4, 0x10, 1, 0, 0, 99] + [0] * 99, [6] + HEADER + [255],
+    [1, 0] * 2048, [1, 0] * 2048 + [1], [4, 0x10, 1, 0, 0] + [99] + [0x30] * 99,
+]
+
+
+def entries(fs):
+    return [b for f in fs for b in [len(f)] + f]
+
+
+def read_list(l):
+    """Write's reading of a list."""
+    fs, at = [], 0
+    if len(l) > LIST:
+        raise Refused(14)
+    while at < len(l):
+        k = l[at]
+        if not 1 <= k <= 99 or at + 1 + k > len(l):
+            raise Refused(14)
+        fs.append(l[at + 1:at + 1 + k])
+        at += 1 + k
+    log = Log()
+    for i, f in enumerate(fs, 1):
+        try:
+            admit(log, bytes(f))
+        except Refused as r:
+            raise Refused(r.number, i) from None
+    if not fs:
+        raise Refused(4, 1)
+    return log
+
+
+def outcome(letter, size, data):
+    """The line printed for a case."""
+    try:
+        if letter == "R":
+            log = read(bytes(data))
+            written = bytes(entries([list(f) for f in log.frames]))
+            values, need = [len(log.initial), log.events(), len(log.questions), len(written)], LIST
+        else:
+            log = read_list(list(data))
+            written = b"".join(encode(f) for f in log.frames)
+            values, need = [len(written)], LOG
+        if size < need:
+            raise Refused(12)
+    except Refused as r:
+        return f"{letter} refused {r.number} {r.line}  kept\n"
+    return f"{letter} {' '.join(map(str, values))} {written.hex()} kept\n"
+
+
+def main():
+    cases = [("R", size, b"".join(map(encode, fs))) for fs in FRAMES.values() for size in (4096,)]
+    cases += [("W", 8192, entries(fs)) for fs in FRAMES.values()]
+    cases += [("R", 4096, log) for log in LOGS] + [("W", 8192, l) for l in LISTS]
+    cases += [("R", size, GOOD) for size in (0, 4095, 4097)] + [("R", 0, GOOD[:-1])]
+    cases += [("W", size, entries(FRAMES["bench"])) for size in (0, 8191, 8200)] + [("W", 0, [0])]
+    folder = pathlib.Path(sys.argv[1])
+    (folder / "stdin").write_bytes(b"".join(c.encode() + bytes(word(size) + word(len(d))) + bytes(d) for c, size, d in cases))
+    (folder / "stdout").write_text("".join(outcome(*c) for c in cases))
+
+
+main()
