@@ -1,12 +1,12 @@
 -- Answer lines written one behind the other are those of the questions so far.
-use mathlib.Core.Path.{_≡_, refl, sym, ap, _∙_}
+use mathlib.Core.Path.{_≡_, refl, sym, ap, subst, _∙_}
 use mathlib.Core.List.{List, [], _∷_, _++_, append-nil, append-assoc}
 use mathlib.Core.Option.{some}
-use Prim.Native.Nat.{ℕ, zero, suc, _+_, _-_, _/_, _%_, _≤_, _<_}
+use Prim.Native.Nat.{ℕ, zero, suc, _+_, _-_, _≤_, _<_}
 use native.Mathlib.Omega.{arith}
 use native.Mathlib.Numerals.{add-one}
-use lib.ListN.{length, take, drop, getElem?}
-use lib.Seq.{take-at, take-all, take-append-add, length-take-le, drop-length}
+use lib.ListN.{length, take, drop, getElem?, length-append, length-drop}
+use lib.Seq.{take-at, drop-at, take-all, drop-drop, drop-length}
 use borrow.Rule.Slice.PartMut.{putMid, post-is}
 use Rattle.model.specs.Limits.{limits}
 use Rattle.model.specs.Formula.{Formula}
@@ -14,7 +14,6 @@ use Rattle.model.specs.Computation.{Computation}
 use Rattle.model.specs.Answer.{answer, answerLine, refusalLine}
 use Rattle.model.specs.Reading.{Reading, refused, accepted, readLog}
 use Rattle.model.specs.Operations.{answerLines, printedOf, printed}
-use Rattle.lattice.proofs.Line.{length-line}
 use Rattle.codec.proofs.Demands.{asked-line-fits}
 use Rattle.log.specs.declared.State.{State}
 use Rattle.report.specs.Written.{Written}
@@ -39,28 +38,29 @@ lines-more : (K : Computation) (l : List Formula) (i : ℕ) (f : Formula) → ge
 unfolding answerLines
 lines-more K l i f e = rw (add-one, take-question l i f e, lines-append, append-nil)
 
--- A line written into the part from `end` on stands behind what was there.
-line-behind : (K : Computation) (l : List Formula) (i : ℕ) (f : Formula) → getElem? l i ≡ some f
-    → (out part : List ℕ) (end r : ℕ) → end ≤ length out → take end out ≡ answerLines K (take i l)
-    → Written (answerLine (answer K f)) r (take (length out - end) (drop end out)) part
-    → take (end + r) (putMid end (length out - end) out part) ≡ answerLines K (take (i + 1) l)
-line-behind K l i f e out part end r h t w =
-    let line = answerLine (answer K f) in
-    let size : length (take end out) ≡ end = length-take-le end out h in
-    let front : take r part ≡ line = ap (take r) (w .front) ∙ take-at line (drop (length line) (take (length out - end) (drop end out))) r (sym (w .size)) in
-    ap (take (end + r)) (put-end end out part h)
-    ∙ ap (λ (x : ℕ). take (x + r) (take end out ++ part)) (sym size) ∙ take-append-add (take end out) part r
-    ∙ ap (λ (x : List ℕ). take end out ++ x) front ∙ ap (λ (x : List ℕ). x ++ line) t ∙ sym (lines-more K l i f e)
+-- A line written behind others: they stand together, and behind them all is as it was.
+line-behind : (l line was out part : List ℕ) (end r : ℕ) → end ≤ length out → Written l end was out
+    → Written line r (take (length out - end) (drop end out)) part → Written (l ++ line) (end + r) was (putMid end (length out - end) out part)
+line-behind l line was out part end r h w v =
+    let size : length l ≡ end = sym (w .size) in
+    let before : take end out ≡ l = ap (take end) (w .front) ∙ take-at l (drop (length l) was) end size in
+    let behind : drop end out ≡ drop (length l) was = ap (drop end) (w .front) ∙ drop-at l (drop (length l) was) end size in
+    let rest : take (length out - end) (drop end out) ≡ drop (length l) was = take-all (length out - end) (drop end out) (omega (arith, length-drop end out)) ∙ behind in
+    let here : part ≡ line ++ drop (length l + length line) was = v .front ∙ rw (rest, drop-drop) in
+    record {
+      size = omega (arith, w .size, v .size, length-append l line);
+      front = put-end end out part h ∙ rw (before, here, length-append, append-assoc);
+    }
 
 -- THE LINES OF A LOADED LOG
 
--- The first `end` bytes of the output are the lines to the first i questions.
-pub record Printing (s : State) (k : ℕ) (list offs starts values out : List ℕ) (end i : ℕ) : Type 0 where
-  pub is : (p : Prepared s k list offs starts values) → take end out ≡ answerLines (p .accepts .reading .computation) (take i (p .accepts .reading .questions))
+-- The lines to the first i questions stand at the front of the output, and end at `end`.
+pub record Printing (s : State) (k : ℕ) (list offs starts values was out : List ℕ) (end i : ℕ) : Type 0 where
+  pub is : (p : Prepared s k list offs starts values) → Written (answerLines (p .accepts .reading .computation) (take i (p .accepts .reading .questions))) end was out
 
-pub printing-none : (s : State) (k : ℕ) (list offs starts values out : List ℕ) → Printing s k list offs starts values out 0 0
+pub printing-none : (s : State) (k : ℕ) (list offs starts values was : List ℕ) → Printing s k list offs starts values was was 0 0
 unfolding answerLines
-printing-none s k list offs starts values out = record { is = λ p. refl }
+printing-none s k list offs starts values was = record { is = λ p. record { size = refl; front = refl } }
 
 module _ {s : State} {k : ℕ} {list offs starts values : List ℕ} (out : List ℕ) (end i : ℕ) (h : i < s .questions) (inside : end ≤ length out)
     (bytes : List ℕ) (found : (q : List ℕ) → Asks list k (s .events + 1 + i) q → bytes ≡ q) (r : ℕ) (part : List ℕ)
@@ -75,25 +75,32 @@ module _ {s : State} {k : ℕ} {list offs starts values : List ℕ} (out : List 
   pub line-short : Prepared s k list offs starts values → r ≤ 273
   line-short p = omega (arith, written p .size, asked-line-fits (is-asked (p .accepts) i (there p .0) (there p .1)))
 
-  pub printing-more : Printing s k list offs starts values out end i → Printing s k list offs starts values (putMid end (length out - end) out part) (end + r) (i + 1)
-  printing-more g = record { is = λ p. line-behind (p .accepts .reading .computation) (p .accepts .reading .questions) i (there p .0) (there p .1) out part end r inside (g .is p) (written p) }
+  pub printing-more : {was : List ℕ} → Printing s k list offs starts values was out end i → Printing s k list offs starts values was (putMid end (length out - end) out part) (end + r) (i + 1)
+  printing-more {was} g = record {
+    is = λ p.
+      subst (λ x. Written x (end + r) was (putMid end (length out - end) out part)) (sym (lines-more (p .accepts .reading .computation) (p .accepts .reading .questions) i (there p .0) (there p .1)))
+      (line-behind _ _ was out part end r inside (g .is p) (written p));
+  }
 
 -- At the end all questions are answered.
-pub printing-all : {s : State} {k : ℕ} {list offs starts values out : List ℕ} {end i : ℕ} → Printing s k list offs starts values out end i → s .questions ≤ i
-    → (p : Prepared s k list offs starts values) → take end out ≡ answerLines (p .accepts .reading .computation) (p .accepts .reading .questions)
-printing-all {i = i} g h p = g .is p ∙ ap (answerLines (p .accepts .reading .computation)) (take-all i (p .accepts .reading .questions) (omega (arith, question-count (p .accepts))))
+pub printing-all : {s : State} {k : ℕ} {list offs starts values was out : List ℕ} {end i : ℕ} → Printing s k list offs starts values was out end i → s .questions ≤ i
+    → (p : Prepared s k list offs starts values) → Written (answerLines (p .accepts .reading .computation) (p .accepts .reading .questions)) end was out
+printing-all {was = was} {out = out} {end = end} {i = i} g h p =
+    subst (λ l. Written (answerLines (p .accepts .reading .computation) l) end was out) (take-all i (p .accepts .reading .questions) (omega (arith, question-count (p .accepts)))) (g .is p)
 
 -- WHAT IS PRINTED
 
-pub printed-lines : (log : List ℕ) (r : Reading) → readLog limits log ≡ accepted r → printed log ≡ answerLines (r .computation) (r .questions)
+pub printed-so : {l m was out : List ℕ} {r : ℕ} → l ≡ m → Written l r was out → ((r ≡ length m) × (r ≤ length out)) × (out ≡ m ++ drop r was)
+printed-so {l} {m} {was} {out} {r} e w =
+    let size : r ≡ length m = w .size ∙ ap length e in
+    ((size, omega (arith, w .size, ap length (w .front), length-append l (drop (length l) was))), w .front ∙ rw (sym (w .size), e))
+
+-- The lines of an accepted log.
+pub printed-lines : (log : List ℕ) (r : Reading) → readLog limits log ≡ accepted r → answerLines (r .computation) (r .questions) ≡ printed log
 unfolding printed printedOf
 printed-lines log r e = rw e
 
-pub printed-refusal : (log : List ℕ) (k n : ℕ) → readLog limits log ≡ refused k n → (x : ℕ) → x ≡ k
-    → (r : ℕ) (out out′ : List ℕ) → Written (refusalLine x n) r out out′ → (r ≤ 4368) × (take r out′ ≡ printed log)
-unfolding printed printedOf refusalLine
-printed-refusal log k n e x same r out out′ w =
-    let l = refusalLine x n in
-    let size : length l ≡ 11 = length-line (0x50 ∷ x ∷ (n / 256) ∷ (n % 256) ∷ []) in
-    let front : take r out′ ≡ l = ap (take r) (w .front) ∙ take-at l (drop (length l) out) r (sym (w .size)) in
-    (omega (arith, w .size), front ∙ rw (e, same))
+-- The line of a refused one.
+pub printed-refusal : (log : List ℕ) (k n : ℕ) → readLog limits log ≡ refused k n → (x : ℕ) → x ≡ k → refusalLine x n ≡ printed log
+unfolding printed printedOf
+printed-refusal log k n e x same = rw (e, same)

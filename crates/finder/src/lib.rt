@@ -6,10 +6,10 @@ use crate::frames::question_at;
 use crate::question::put_line;
 use crate::question::true_at;
 ghost use mathlib.Core.Path.{_≡_};
-ghost use mathlib.Core.List.{List, [], _∷_};
+ghost use mathlib.Core.List.{List, [], _∷_, _++_};
 ghost use mathlib.Core.Option.{some};
 ghost use Prim.Native.Nat.{ℕ, _≤_, _<_};
-ghost use lib.ListN.{length, take, getElem?};
+ghost use lib.ListN.{length, take, drop, getElem?};
 ghost use Rattle.model.specs.Formula.{Formula};
 ghost use Rattle.model.specs.Computation.{Computation, Consistent};
 ghost use Rattle.model.specs.Answer.{trueAt, answer, answerLine};
@@ -201,7 +201,7 @@ fn put_lines(
 ) -> usize
     requires { ⌜ (k ≤ length (now list)) × (65536 ≤ length (now ws)) × (8192 ≤ length (now bs)) × (4368 ≤ length (now out)) ⌝ }
     requires { ⌜ Prepared s k (now list) (now offs) (now starts) (now values) ⌝ }
-    ensures { λ r. ⌜ (r ≤ 4368) × ((p : Prepared s k (now (list .entry)) (now (offs .entry)) (now (starts .entry)) (now (values .entry))) → take r (now (out .exit)) ≡ answerLines (p .accepts .reading .computation) (p .accepts .reading .questions)) ⌝ }
+    ensures { λ r. ⌜ ((p : Prepared s k (now (list .entry)) (now (offs .entry)) (now (starts .entry)) (now (values .entry))) → Written (answerLines (p .accepts .reading .computation) (p .accepts .reading .questions)) r (now (out .entry)) (now (out .exit))) ⌝ }
 {
     let n = s.stations;
     let e = s.events;
@@ -231,7 +231,7 @@ fn put_lines(
 fn print_loaded(list: &[u8], k: usize, table: &[u8], s: log::State, out: &mut [u8]) -> usize
     requires { ⌜ (k ≤ length (now list)) × (length (now table) ≡ 10240) × (4368 ≤ length (now out)) ⌝ }
     requires { ⌜ ((log : List ℕ) × Accepts log s k (now list) (now table)) ⌝ }
-    ensures { λ r. ⌜ (r ≤ 4368) × ((log : List ℕ) (a : Accepts log s k (now (list .entry)) (now (table .entry))) → take r (now (out .exit)) ≡ answerLines (a .reading .computation) (a .reading .questions)) ⌝ }
+    ensures { λ r. ⌜ ((log : List ℕ) (a : Accepts log s k (now (list .entry)) (now (table .entry))) → Written (answerLines (a .reading .computation) (a .reading .questions)) r (now (out .entry)) (now (out .exit))) ⌝ }
 {
     let counts = s.counts;
     let mut starts = [0u8; 1024];
@@ -242,13 +242,11 @@ fn print_loaded(list: &[u8], k: usize, table: &[u8], s: log::State, out: &mut [u
     put_lines(list, k, s, &offs, &starts, &values, &mut ws, &mut bs, out)
 }
 
-// What is printed for a log, at the front of `out`; hands back its length. Nothing where `out` has no room for the most that can be printed.
-pub fn run(log: &[u8], out: &mut [u8]) -> usize
-    ensures { λ r. ⌜ (r ≤ 4368) × (4368 ≤ length (now (out .entry)) → take r (now (out .exit)) ≡ printed (now (log .entry))) ⌝ }
+// What is printed for a log, at the front of `out`; hands back its length.
+pub fn run(log: &[u8], out: &mut [u8; PRINTED]) -> usize
+    ensures { λ r. ⌜ (r ≡ length (printed (now (log .entry)))) × (r ≤ length (now (out .exit))) ⌝ }
+    ensures { λ r. ⌜ now (out .exit) ≡ printed (now (log .entry)) ++ drop r (now (out .entry)) ⌝ }
 {
-    if out.len() < PRINTED {
-        return 0;
-    }
     let mut list = [0u8; 4096];
     let mut table = [0u8; 10240];
     let loaded = log::load(log, &mut list, &mut table);

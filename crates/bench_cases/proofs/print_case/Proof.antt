@@ -1,6 +1,5 @@
 -- `bench_cases::print_case`: what is written is a part of what `run` filled. Assumes nothing.
 use mathlib.Core.Path.{sym}
-use native.Mathlib.Omega.{arith}
 use lib.Seq.{length-take-le}
 use borrow.Author.Needs.{needs}
 use Rattle.bench_cases.proofs.print_case.Statement.{statement}
@@ -12,9 +11,6 @@ slice-aggregate-write-all c = search needs
 write-all-requires : tie.Need-write-all-requires
 write-all-requires c κs = search needs
 
-slice-aggregate-run : tie.Need-slice-aggregate-run
-slice-aggregate-run c = search needs
-
 run-requires : tie.Need-run-requires
 run-requires c κs = search needs
 
@@ -22,7 +18,7 @@ array-share-prefix-out : tie.Need-array-share-prefix-out
 array-share-prefix-out c = search needs
 
 slice-aggregate-write-all-2 : tie.Need-slice-aggregate-write-all-2
-slice-aggregate-write-all-2 c = sym (length-take-le _ _ (omega (arith, c .before .before .run .ensures .0, c .before .before .run .kept .1 .0)))
+slice-aggregate-write-all-2 c = sym (length-take-le _ _ (c .before .run .ensures .0 .1))
 
 write-all-requires-2 : tie.Need-write-all-requires-2
 write-all-requires-2 c κs = search needs
@@ -36,7 +32,6 @@ print-case-spec =
     (tie.spec
     slice-aggregate-write-all
     write-all-requires
-    slice-aggregate-run
     run-requires
     array-share-prefix-out
     slice-aggregate-write-all-2

@@ -1,13 +1,9 @@
 -- `corpus::answer`: what is written is a part of what `run` filled. Assumes nothing.
 use mathlib.Core.Path.{sym}
-use native.Mathlib.Omega.{arith}
 use lib.Seq.{length-take-le}
 use borrow.Author.Needs.{needs}
 use Rattle.corpus.proofs.answer.Statement.{statement}
 use Rattle.corpus.proofs.answer.Tie as tie
-
-slice-aggregate-run : tie.Need-slice-aggregate-run
-slice-aggregate-run c = search needs
 
 run-requires : tie.Need-run-requires
 run-requires c κs = search needs
@@ -16,7 +12,7 @@ array-share-prefix-out : tie.Need-array-share-prefix-out
 array-share-prefix-out c = search needs
 
 slice-aggregate-write-all : tie.Need-slice-aggregate-write-all
-slice-aggregate-write-all c = sym (length-take-le _ _ (omega (arith, c .before .before .run .ensures .0, c .before .before .run .kept .1 .0)))
+slice-aggregate-write-all c = sym (length-take-le _ _ (c .before .run .ensures .0 .1))
 
 write-all-requires : tie.Need-write-all-requires
 write-all-requires c κs = search needs
@@ -34,7 +30,6 @@ pub answer-spec : {M : Type 1} → statement M
 answer-spec =
     tie.close
     (tie.spec
-    slice-aggregate-run
     run-requires
     array-share-prefix-out
     slice-aggregate-write-all

@@ -38,9 +38,7 @@ same-length : tie.Need-same-length
 same-length c = search needs
 
 returns : tie.Need-returns
-returns c =
-    let l = c .before .before .before .before .put-lines in
-    (l .ensures .0, λ log a. l .ensures .1 (record { log = log; table = _; accepts = a; laid = c .before .before .before .before .before .before .before .before .before .before .before .before .before .lay .ensures _ _ (loaded a) }))
+returns c log a = c .before .before .before .before .put-lines .ensures (record { log = log; table = _; accepts = a; laid = c .before .before .before .before .before .before .before .before .before .before .before .before .before .lay .ensures _ _ (loaded a) })
 
 pub print-loaded-spec : {M : Type 1} → statement M
 print-loaded-spec =

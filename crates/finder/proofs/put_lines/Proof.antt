@@ -11,7 +11,7 @@ use Rattle.finder.proofs.put_lines.Tie as tie
 
 abbrev Inv-loop : tie.InvT-loop
 Inv-loop list k s offs starts values ws₀ bs₀ out₀ n e counts end₀ i₀ ws bs out end i =
-    (i ≤ s .questions) × (end ≤ 273 * i) × (length ws ≡ length ws₀) × (length bs ≡ length bs₀) × (length out ≡ length out₀) × Printing s k list offs starts values out end i
+    (i ≤ s .questions) × (end ≤ 273 * i) × (length ws ≡ length ws₀) × (length bs ≡ length bs₀) × (length out ≡ length out₀) × Printing s k list offs starts values out₀ out end i
 
 abbrev μ-loop : tie.MeasureT-loop
 μ-loop list k s offs starts values ws₀ bs₀ out₀ n e counts end₀ i₀ ws bs out end i = s .questions - i
@@ -83,7 +83,7 @@ same-length-3 : tie.Need-same-length-3 Inv-loop μ-loop
 same-length-3 c = c .before .before .loop .inv .4
 
 returns : tie.Need-returns Inv-loop μ-loop
-returns c = let i = c .before .before .loop .inv in (omega (arith, i .0, i .1, c .before .before .before .before .before .before .before .before .before .before .pre .1 .accepts .bounded .few-questions), printing-all (i .5) (c .if1 .left))
+returns c = printing-all (c .before .before .loop .inv .5) (c .if1 .left)
 
 pub put-lines-spec : {M : Type 1} → statement M
 put-lines-spec =

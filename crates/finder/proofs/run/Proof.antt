@@ -1,15 +1,11 @@
 -- `run` meets its contract: one refusal line, or the lines to all questions. Assumes nothing.
-use mathlib.Core.Path.{sym, _∙_}
 use native.Mathlib.Omega.{arith}
 use borrow.Author.Needs.{needs}
 use Rattle.finder.proofs.Lines.{refused-line}
 use Rattle.finder.proofs.Logs.{to-accepts, to-refused}
-use Rattle.finder.proofs.Printed.{printed-lines, printed-refusal}
+use Rattle.finder.proofs.Printed.{printed-so, printed-lines, printed-refusal}
 use Rattle.finder.proofs.run.Statement.{statement}
 use Rattle.finder.proofs.run.Tie as tie
-
-returns : tie.Need-returns
-returns c = (omega arith, λ h. absurd (omega (arith, c .if1 .taken)))
 
 slice-aggregate-load : tie.Need-slice-aggregate-load
 slice-aggregate-load c = search needs
@@ -29,7 +25,7 @@ number-requires c κs = search needs
 put-refusal-requires : tie.Need-put-refusal-requires
 put-refusal-requires c κs =
     let e = to-refused _ _ _ _ _ _ (c .before .before .before .before .before .before .before .load .ensures) _ (c .before .before .before .outcome .given .1) in
-    (omega (arith, refused-line _ _ _ e), omega (arith, c .before .before .before .before .before .before .before .before .before .before .if1 .left))
+    (omega (arith, refused-line _ _ _ e), search needs)
 
 enum-told : tie.Need-enum-told
 enum-told c = search needs
@@ -44,31 +40,22 @@ print-loaded-requires : tie.Need-print-loaded-requires
 print-loaded-requires c κs =
     let l = c .before .before .before .before .before .before .before .before .load in
     let a = to-accepts _ _ _ _ _ _ (l .ensures) (c .before .before .before .before .enum-told .given .1) in
-    ((omega (arith, a .short, l .kept), omega (arith, l .kept), c .before .before .before .before .before .before .before .before .before .before .before .if1 .left), (_, a))
+    ((omega (arith, a .short, l .kept), omega (arith, l .kept), search needs), (_, a))
 
-same-length : tie.Need-same-length
-same-length c = search needs
+returns : tie.Need-returns
+returns c =
+    let e = to-refused _ _ _ _ _ _ (c .before .before .before .before .before .before .before .before .load .ensures) _ (c .before .before .before .before .outcome .given .1) in
+    printed-so (printed-refusal _ _ _ e _ (c .before .before .number .ensures)) (c .put-refusal .ensures)
 
 returns-2 : tie.Need-returns-2
 returns-2 c =
-    let e = to-refused _ _ _ _ _ _ (c .before .before .before .before .before .before .before .before .before .before .load .ensures) _ (c .before .before .before .before .before .before .outcome .given .1) in
-    let p = printed-refusal _ _ _ e _ (c .before .before .before .before .number .ensures) _ _ _ (c .before .before .put-refusal .ensures) in
-    (p .0, λ h. p .1)
-
-same-length-2 : tie.Need-same-length-2
-same-length-2 c = search needs
-
-returns-3 : tie.Need-returns-3
-returns-3 c =
-    let a = to-accepts _ _ _ _ _ _ (c .before .before .before .before .before .before .before .before .before .before .before .load .ensures) (c .before .before .before .before .before .before .before .enum-told .given .1) in
-    let l = c .before .before .print-loaded .ensures in
-    (l .0, λ h. l .1 _ a ∙ sym (printed-lines _ (a .reading) (a .is)))
+    let a = to-accepts _ _ _ _ _ _ (c .before .before .before .before .before .before .before .before .before .load .ensures) (c .before .before .before .before .before .enum-told .given .1) in
+    printed-so (printed-lines _ (a .reading) (a .is)) (c .print-loaded .ensures _ a)
 
 pub run-spec : {M : Type 1} → statement M
 run-spec =
     tie.close
     (tie.spec
-    returns
     slice-aggregate-load
     slice-aggregate-load-2
     load-requires
@@ -79,7 +66,5 @@ run-spec =
     slice-aggregate-print-loaded
     slice-aggregate-print-loaded-2
     print-loaded-requires
-    same-length
-    returns-2
-    same-length-2
-    returns-3)
+    returns
+    returns-2)

@@ -1,6 +1,5 @@
 -- `moments::main`: what is written is a part of what `run` filled. Assumes nothing.
 use mathlib.Core.Path.{sym}
-use native.Mathlib.Omega.{arith}
 use lib.Seq.{length-take-le}
 use borrow.Author.Needs.{needs}
 use Rattle.moments.proofs.main.Statement.{statement}
@@ -18,17 +17,14 @@ array-share-prefix-input c = search needs
 slice-aggregate-run : tie.Need-slice-aggregate-run
 slice-aggregate-run c = search needs
 
-slice-aggregate-run-2 : tie.Need-slice-aggregate-run-2
-slice-aggregate-run-2 c = search needs
-
 run-requires : tie.Need-run-requires
 run-requires c κs = search needs
 
 array-share-prefix-out : tie.Need-array-share-prefix-out
-array-share-prefix-out c = search needs
+array-share-prefix-out c = c .run .ensures .0 .1
 
 slice-aggregate-write-all : tie.Need-slice-aggregate-write-all
-slice-aggregate-write-all c = sym (length-take-le _ _ (omega (arith, c .before .before .run .ensures .0, c .before .before .run .kept .1 .0)))
+slice-aggregate-write-all c = sym (length-take-le _ _ (c .before .run .ensures .0 .1))
 
 write-all-requires : tie.Need-write-all-requires
 write-all-requires c κs = search needs
@@ -44,7 +40,6 @@ main-spec =
     read-full-requires
     array-share-prefix-input
     slice-aggregate-run
-    slice-aggregate-run-2
     run-requires
     array-share-prefix-out
     slice-aggregate-write-all
