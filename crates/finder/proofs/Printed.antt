@@ -78,8 +78,8 @@ module _ {s : State} {k : ℕ} {list offs starts values : List ℕ} (out : List 
   pub printing-more : {was : List ℕ} → Printing s k list offs starts values was out end i → Printing s k list offs starts values was (putMid end (length out - end) out part) (end + r) (i + 1)
   printing-more {was} g = record {
     is = λ p.
-      subst (λ x. Written x (end + r) was (putMid end (length out - end) out part)) (sym (lines-more (p .accepts .reading .computation) (p .accepts .reading .questions) i (there p .0) (there p .1)))
-      (line-behind _ _ was out part end r inside (g .is p) (written p));
+        subst (λ x. Written x (end + r) was (putMid end (length out - end) out part)) (sym (lines-more (p .accepts .reading .computation) (p .accepts .reading .questions) i (there p .0) (there p .1)))
+        (line-behind _ _ was out part end r inside (g .is p) (written p));
   }
 
 -- At the end all questions are answered.

@@ -169,6 +169,54 @@ pub fn write_start(
     r.rounds
 }
 
+// The same for eight stations: the compiler makes code for just that many.
+pub fn write_eight(
+    ws: &mut [u8],
+    a: usize,
+    b: usize,
+    out: usize,
+    e: usize,
+    counts: &[u8; 8],
+    offs: &[u8; 8],
+    starts: &[u8],
+    i: usize,
+) -> u32
+    requires { ⌜ Stations 8 (now counts) (now offs) ⌝ }
+    requires { ⌜ (a + cells 8 (take 8 (now counts)) ≤ length (now ws)) × (getD (now ws) a 0 ≡ 255 → ⊥) ⌝ }
+    requires { ⌜ (b + cells 8 (take 8 (now counts)) ≤ length (now ws)) × (getD (now ws) b 0 ≡ 255 → ⊥) ⌝ }
+    requires { ⌜ (e ≤ 127) × (i ≤ e) × (out + (e + 1) * 8 ≤ length (now ws)) × ((e + 1) * 8 ≤ length (now starts)) ⌝ }
+    ensures { λ r. ⌜ ((bs bt : List ℕ) → Began (placed 8 (now (counts .entry)) (now (ws .entry)) a bs) (placed 8 (now (counts .entry)) (now (ws .entry)) b bt) e 8 (take 8 (drop (i * 8) (now (starts .entry)))) (out + i * 8) (now (ws .entry)) (now (ws .exit)) r) ⌝ }
+    ensures { λ r. ⌜ r ≤ e + 1 ⌝ }
+{
+    write_start(ws, a, b, out, 8, e, counts, offs, starts, i)
+}
+
+// The same, by the one or by the other.
+pub fn next_start(
+    ws: &mut [u8],
+    a: usize,
+    b: usize,
+    out: usize,
+    n: usize,
+    e: usize,
+    counts: &[u8; 8],
+    offs: &[u8; 8],
+    starts: &[u8],
+    i: usize,
+) -> u32
+    requires { ⌜ Stations n (now counts) (now offs) ⌝ }
+    requires { ⌜ (a + cells n (take n (now counts)) ≤ length (now ws)) × (getD (now ws) a 0 ≡ 255 → ⊥) ⌝ }
+    requires { ⌜ (b + cells n (take n (now counts)) ≤ length (now ws)) × (getD (now ws) b 0 ≡ 255 → ⊥) ⌝ }
+    requires { ⌜ (e ≤ 127) × (i ≤ e) × (out + (e + 1) * n ≤ length (now ws)) × ((e + 1) * n ≤ length (now starts)) ⌝ }
+    ensures { λ r. ⌜ ((bs bt : List ℕ) → Began (placed n (now (counts .entry)) (now (ws .entry)) a bs) (placed n (now (counts .entry)) (now (ws .entry)) b bt) e n (take n (drop (i * n) (now (starts .entry)))) (out + i * n) (now (ws .entry)) (now (ws .exit)) r) ⌝ }
+    ensures { λ r. ⌜ r ≤ e + 1 ⌝ }
+{
+    if n == 8 {
+        return write_eight(ws, a, b, out, e, counts, offs, starts, i);
+    }
+    write_start(ws, a, b, out, n, e, counts, offs, starts, i)
+}
+
 // All starts of a pair: the empty cut and each event's clock.
 pub fn intersect(
     ws: &mut [u8],
@@ -191,7 +239,7 @@ pub fn intersect(
     let mut rounds: u32 = 0;
     let mut i = 0;
     while i <= e {
-        rounds += write_start(ws, a, b, out, n, e, counts, offs, starts, i);
+        rounds += next_start(ws, a, b, out, n, e, counts, offs, starts, i);
         i += 1;
     }
     rounds

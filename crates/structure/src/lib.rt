@@ -234,12 +234,14 @@ pub fn raise(
     requires { ⌜ (length (now out) ≡ 8) × (length (now cut) ≡ 8) × (at + cells n (take n (now counts)) ≤ length (now ws)) × (getD (now ws) at 0 ≡ 255 → ⊥) ⌝ }
     ensures { λ _. ⌜ ((bs : List ℕ) → decoded (take n (now (out .exit))) ≡ raise (placed n (now (counts .entry)) (now (ws .entry)) at bs) (take n (now (cut .entry)))) ⌝ }
 {
-    if n < 8 {
-        let last = wide(offs[n - 1]) + wide(counts[n - 1]);
-        if ws.len() - at - last * n < 8 {
-            raise_any(ws, at, n, counts, offs, cut, out);
-            return;
-        }
+    if n == 8 {
+        raise_eight(ws, at, 8, counts, offs, cut, out);
+        return;
+    }
+    let last = wide(offs[n - 1]) + wide(counts[n - 1]);
+    if ws.len() - at - last * n < 8 {
+        raise_any(ws, at, n, counts, offs, cut, out);
+        return;
     }
     raise_eight(ws, at, n, counts, offs, cut, out);
 }

@@ -21,8 +21,8 @@ loop-holds c =
     let a = c .before .before .args in
     laws.turned-none (a .n) (a .e) (a .a) (a .b) (a .out) (a .counts .now) (a .starts .now) (a .ws .now)
 
-write-start-requires : tie.Need-write-start-requires Inv-loop μ-loop
-write-start-requires c κs =
+next-start-requires : tie.Need-next-start-requires Inv-loop μ-loop
+next-start-requires c κs =
     let s = c .before .before .before .before .before in
     let a = s .args in
     let l = c .before .before .loop in
@@ -47,7 +47,7 @@ add-rounds : tie.Need-add-rounds Inv-loop μ-loop
 add-rounds c =
     let s = c .before .before .before .before .before .before .before .before in
     let l = c .before .before .before .before .before .loop in
-    omega (arith, laws.few-rounds (l .i) (s .args .e) (l .rounds) (c .before .before .before .before .loop-test .taken) (s .pre .1 .0 .1) (l .inv .few), c .before .before .write-start .ensures .1)
+    omega (arith, laws.few-rounds (l .i) (s .args .e) (l .rounds) (c .before .before .before .before .loop-test .taken) (s .pre .1 .0 .1) (l .inv .few), c .before .before .next-start .ensures .1)
 
 add-i : tie.Need-add-i Inv-loop μ-loop
 add-i c = search needs
@@ -62,7 +62,7 @@ loop-again c =
     let l = c .before .before .before .before .before .loop in
     let z = laws.size-is (a .n) (a .e) (a .counts .now) (s .pre .1 .0 .0) in
     let p = s .pre .1 .1 .0 in
-    let w = c .before .before .write-start in
+    let w = c .before .before .next-start in
     laws.turned-more (a .n) (a .e) (a .a) (a .b) (a .out) (a .counts .now) (a .starts .now) (a .ws .now) (omega (arith, z, p .0)) (omega (arith, z, p .2)) (l .i) (l .ws) (l .rounds) (l .inv)
     (c .before .before .before .before .loop-test .taken) (w .last .0) (w .result) (w .kept .0) (w .ensures .1) (w .ensures .0)
 
@@ -86,7 +86,7 @@ intersect-spec =
     Inv-loop
     μ-loop
     loop-holds
-    write-start-requires
+    next-start-requires
     add-rounds
     add-i
     loop-less
