@@ -25,7 +25,7 @@ use Rattle.codec.proofs.Lawful.{Lawful}
 use Rattle.codec.proofs.QuestionFrames.{questionFrames, question-spelt}
 use Rattle.codec.proofs.Readings.{IsAccepted, log-accepted, log-are-frames, question-stands}
 use Rattle.structure.specs.Laid.{Laid}
-use Rattle.log.specs.declared.State.{State}
+use Rattle.frame.specs.declared.State.{State}
 use Rattle.log.specs.declared.Outcome.{Outcome}
 use Rattle.log.specs.declared.Outcome.the-variants.{Accepted, Refused}
 use Rattle.log.specs.Loaded.{Accepts, Loads}

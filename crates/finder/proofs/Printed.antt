@@ -15,7 +15,7 @@ use Rattle.model.specs.Answer.{answer, answerLine, refusalLine}
 use Rattle.model.specs.Reading.{Reading, refused, accepted, readLog}
 use Rattle.model.specs.Operations.{answerLines, printedOf, printed}
 use Rattle.codec.proofs.Demands.{asked-line-fits}
-use Rattle.log.specs.declared.State.{State}
+use Rattle.frame.specs.declared.State.{State}
 use Rattle.report.specs.Written.{Written}
 use Rattle.finder.specs.Questions.{Asks, Question, Prepared}
 use Rattle.finder.proofs.Logs.{question-there, question-count, asks, is-asked, question}

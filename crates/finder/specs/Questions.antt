@@ -8,7 +8,7 @@ use Rattle.model.specs.Frames.{listOf}
 use Rattle.model.specs.Formula.{Formula, prefix, sound}
 use Rattle.model.specs.Size.{fits}
 use Rattle.model.specs.Computation.{Computation}
-use Rattle.log.specs.declared.State.{State}
+use Rattle.frame.specs.declared.State.{State}
 use Rattle.log.specs.Loaded.{Accepts}
 use Rattle.structure.specs.Laid.{Laid}
 

@@ -56,7 +56,7 @@ fn answer_loaded(
     list: &[u8],
     k: usize,
     table: &[u8],
-    s: log::State,
+    s: frame::State,
     question: usize,
     ws: &mut [u8],
     bs: &mut [u8],
@@ -128,7 +128,7 @@ fn holds_loaded(
     list: &[u8],
     k: usize,
     table: &[u8],
-    s: log::State,
+    s: frame::State,
     question: usize,
     cut: &[u8],
     ws: &mut [u8],
@@ -191,7 +191,7 @@ pub fn holds(
 fn put_lines(
     list: &[u8],
     k: usize,
-    s: log::State,
+    s: frame::State,
     offs: &[u8; 8],
     starts: &[u8],
     values: &[u16],
@@ -228,7 +228,7 @@ fn put_lines(
 }
 
 // Lays a loaded log out, and writes the answer lines to all its questions; hands back where the last ends.
-fn print_loaded(list: &[u8], k: usize, table: &[u8], s: log::State, out: &mut [u8]) -> usize
+fn print_loaded(list: &[u8], k: usize, table: &[u8], s: frame::State, out: &mut [u8]) -> usize
     requires { ⌜ (k ≤ length (now list)) × (length (now table) ≡ 10240) × (4368 ≤ length (now out)) ⌝ }
     requires { ⌜ ((log : List ℕ) × Accepts log s k (now list) (now table)) ⌝ }
     ensures { λ r. ⌜ ((log : List ℕ) (a : Accepts log s k (now (list .entry)) (now (table .entry))) → Written (answerLines (a .reading .computation) (a .reading .questions)) r (now (out .entry)) (now (out .exit))) ⌝ }

@@ -13,7 +13,7 @@ use Rattle.model.specs.Cut.{empty}
 use Rattle.model.specs.Computation.{Computation, Event, noEvent, stations, history, count, full, clock, value}
 use Rattle.structure.specs.Layout.{stationsAt}
 use Rattle.structure.specs.Laid.{Laid}
-use Rattle.log.specs.Table.{slot}
+use Rattle.frame.specs.Table.{slot}
 use Rattle.layout.specs.Offsets.{Offsets}
 use Rattle.layout.specs.Rows.{inTurn, clockIn, clocksIn, startsIn, valuesOf, valuesIn}
 use Rattle.layout.specs.Loaded.{Loaded}

@@ -5,7 +5,7 @@ use mathlib.Core.List.{List}
 use lib.ListN.{length}
 use Rattle.model.specs.Cut.{_!_}
 use Rattle.model.specs.Computation.{Computation, stations, count, clock, eventCount}
-use Rattle.log.specs.Table.{Stored}
+use Rattle.frame.specs.Table.{Stored}
 
 -- The table holds K, which has a history for each of n stations and e events; no clock counts an event that is not there.
 pub record Loaded (K : Computation) (n e : ℕ) (counts t : List ℕ) : Type 0 where

@@ -1,16 +1,8 @@
-// Single bytes, numbers of two bytes, and slots of the event table.
+// Numbers of two bytes.
 ghost use mathlib.Core.Path.{_≡_};
-ghost use Prim.Native.Nat.{_+_, _*_, _≤_, _<_};
+ghost use Prim.Native.Nat.{_+_, _*_, _≤_};
 ghost use lib.ListN.{length, drop};
 ghost use Rattle.model.specs.Frames.{word};
-ghost use Rattle.log.specs.Table.{slot};
-
-// A byte as a number.
-pub(crate) fn wide(x: u8) -> usize
-    ensures { λ r. ⌜ (r ≡ x) × (r < 256) ⌝ }
-{
-    x as usize
-}
 
 // The number of two bytes.
 fn joined(high: u8, low: u8) -> u16
@@ -25,12 +17,4 @@ pub(crate) fn number(table: &[u8], at: usize) -> u16
     ensures { λ r. ⌜ r ≡ word (drop at (now (table .entry))) ⌝ }
 {
     joined(table[at], table[at + 1])
-}
-
-// Where event k of station j stands.
-pub(crate) fn slot(j: usize, k: usize) -> usize
-    requires { ⌜ (j < 8) × (k ≤ 127) ⌝ }
-    ensures { λ r. ⌜ (r ≡ slot j k) × (r + 10 ≤ 10240) ⌝ }
-{
-    (j * 128 + k) * 10
 }

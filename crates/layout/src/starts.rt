@@ -1,6 +1,6 @@
 // The empty cut and the clocks of all events, as the cells of a structure.
-use crate::bytes::slot;
-use crate::bytes::wide;
+use frame::bytes::wide;
+use frame::table::slot;
 ghost use mathlib.Core.Path.{_≡_};
 ghost use mathlib.Core.List.{_++_};
 ghost use Prim.Native.Nat.{_+_, _*_, _≤_, _<_};

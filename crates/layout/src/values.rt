@@ -1,7 +1,7 @@
 // The values of all stations, before and after each event.
 use crate::bytes::number;
-use crate::bytes::slot;
-use crate::bytes::wide;
+use frame::bytes::wide;
+use frame::table::slot;
 ghost use mathlib.Core.Path.{_≡_};
 ghost use mathlib.Core.List.{_++_};
 ghost use Prim.Native.Nat.{_+_, _≤_, _<_};

@@ -1,11 +1,3 @@
-pub mod Parts
-pub mod Clocks
-pub mod Slots
-pub mod Steps
-pub mod Headers
-pub mod Extended
-pub mod Events
-pub mod Questions
 pub mod Loads
 pub mod Operations
 pub mod Entries

@@ -18,17 +18,17 @@ use Rattle.wire.specs.Put.{putOf}
 use Rattle.wire.specs.Walked.{Framed, Spoilt}
 use Rattle.wire.proofs.Puts.{take-put}
 use Rattle.wire.proofs.Carried.{items-frame, items-check, items-end}
-use Rattle.log.specs.declared.State.{State}
-use Rattle.log.specs.declared.Admitted.{Admitted}
-use Rattle.log.specs.declared.Step.{Step}
-use Rattle.log.specs.declared.Step.the-variants.{Next, Faulty}
+use Rattle.frame.specs.declared.State.{State}
+use Rattle.frame.specs.declared.Admitted.{Admitted}
+use Rattle.frame.specs.declared.Step.{Step}
+use Rattle.frame.specs.declared.Step.the-variants.{Next, Faulty}
 use Rattle.log.specs.declared.Position.{Position}
 use Rattle.log.specs.declared.Turn.{Turn}
 use Rattle.log.specs.declared.Loaded.{Loaded}
-use Rattle.log.specs.State.{fresh, Bounded, Holds, Goes, Stepped, Admits}
+use Rattle.frame.specs.State.{fresh, Bounded, Holds, Goes, Stepped, Admits}
 use Rattle.log.specs.Loaded.{first, Sofar, Onward, Moved, Tries, Within, Further, Reads, refusedAt, Accepts, Loads}
-use Rattle.log.proofs.Steps.{begun-not, begun-yes}
-use Rattle.log.proofs.Headers.{zero-at}
+use Rattle.frame.proofs.Steps.{begun-not, begun-yes}
+use Rattle.frame.proofs.Headers.{zero-at}
 
 -- ITEMS
 

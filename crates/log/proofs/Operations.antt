@@ -1,9 +1,11 @@
 -- Laws of Read and Write: what is handed back and written follows from what the reading comes to. Assumes nothing.
 use mathlib.Core.Path.{_≡_, sym, ap, _∙_}
+use mathlib.Core.Bool.{Bool, true, false, not, cond}
 use mathlib.Core.List.{List, [], _∷_}
 use Prim.Native.Nat.{ℕ, _<_, _≤_}
 use native.Mathlib.Omega.{arith}
-use borrow.Author.Tests.{lt-ltb, le-ltb}
+use borrow.Author.Tests.{lt-ltb, le-ltb, leb-true, leb-false, not-true, not-false}
+use lib.Dec.{leb, ltb}
 use lib.ListN.{length, take}
 use lib.Seq.{length-take-le}
 use Rattle.model.specs.Limits.{limits}
@@ -15,7 +17,7 @@ use Rattle.model.specs.Operations.{readEffect, readOp, writeEffect, writeOp}
 use Rattle.model.specs.declared.Refusal.{Refusal}
 use Rattle.wire.specs.Put.{putOf}
 use Rattle.wire.proofs.Puts.{put-front}
-use Rattle.log.specs.declared.State.{State}
+use Rattle.frame.specs.declared.State.{State}
 use Rattle.log.specs.declared.Outcome.{Outcome}
 use Rattle.log.specs.declared.Outcome.the-variants.{Accepted, Refused}
 use Rattle.log.specs.Loaded.{Accepts, Loads}
@@ -35,20 +37,26 @@ unfolding readOp readEffect
 read-refused log out e = (rw e, rw e)
 
 module _ {log : List ℕ} {s : State} {k : ℕ} {list t : List ℕ} (a : Accepts log s k list t) (out : List ℕ) where
-  pub read-no-room : length out < 4096 → (refuses 12 0 ≡ readOp log out .reply) × (out ≡ readOp log out .output)
-  unfolding readOp readEffect
-  read-no-room h = (rw (a .is, lt-ltb (length out) 4096 h), rw (a .is, lt-ltb (length out) 4096 h))
-
   size : length list ≡ 4096 → k ≡ length (listOf (a .reading .frames))
   size l = sym (length-take-le k list (omega (arith, a .short))) ∙ ap length (a .listed)
 
-  pub read-done : length list ≡ 4096 → 4096 ≤ length out → (out′ : List ℕ) → out′ ≡ putOf out 0 (take k list)
-      → (gives (s .stations ∷ s .events ∷ s .questions ∷ k ∷ []) ≡ readOp log out .reply) × (out′ ≡ readOp log out .output)
-  unfolding readOp readEffect
-  read-done l h out′ e = (
-    rw (a .is, le-ltb (length out) 4096 h, a .holds .stored .size, a .holds .events, a .holds .questions, size l),
-    e ∙ put-front out (take k list) ∙ rw (a .is, le-ltb (length out) 4096 h, a .listed),
-  )
+  -- b is what `put_list` hands back
+  module _ (b : Bool) (is : b ≡ leb 4096 (length out)) (out′ : List ℕ) (put : out′ ≡ cond (leb 4096 (length out)) (putOf out 0 (take k list)) out) where
+    pub read-no-room : not b ≡ true → (refuses 12 0 ≡ readOp log out .reply) × (out′ ≡ readOp log out .output)
+    unfolding readOp readEffect
+    read-no-room n =
+        let f : leb 4096 (length out) ≡ false = sym is ∙ not-true b n in
+        let h : ltb (length out) 4096 ≡ true = lt-ltb (length out) 4096 (leb-false 4096 (length out) f) in
+        (rw (a .is, h), put ∙ rw (f, a .is, h))
+
+    pub read-done : not b ≡ false → length list ≡ 4096 → (gives (s .stations ∷ s .events ∷ s .questions ∷ k ∷ []) ≡ readOp log out .reply) × (out′ ≡ readOp log out .output)
+    unfolding readOp readEffect
+    read-done n l =
+        let f : leb 4096 (length out) ≡ true = sym is ∙ not-false b n in
+        let h : ltb (length out) 4096 ≡ false = le-ltb (length out) 4096 (leb-true 4096 (length out) f) in (
+          rw (a .is, h, a .holds .stored .size, a .holds .events, a .holds .questions, size l),
+          put ∙ rw (f, put-front out (take k list), a .is, h, a .listed),
+        )
 
 -- WRITE
 pub write-refused : (list out : List ℕ) {k n : ℕ} → readList limits list ≡ refused k n → (refuses k n ≡ writeOp list out .reply) × (out ≡ writeOp list out .output)

@@ -18,11 +18,11 @@ use Rattle.wire.specs.Put.{putOf}
 use Rattle.wire.proofs.Puts.{length-put, put-nil, put-put}
 use Rattle.wire.proofs.Hexes.{length-line}
 use Rattle.codec.proofs.Sizes.{sizes}
-use Rattle.log.specs.declared.Admitted.{Admitted}
-use Rattle.log.specs.declared.Step.{Step}
-use Rattle.log.specs.declared.Step.the-variants.{Next, Faulty}
+use Rattle.frame.specs.declared.Admitted.{Admitted}
+use Rattle.frame.specs.declared.Step.{Step}
+use Rattle.frame.specs.declared.Step.the-variants.{Next, Faulty}
 use Rattle.log.specs.declared.Position.{Position}
-use Rattle.log.specs.State.{Admits}
+use Rattle.frame.specs.State.{Admits}
 use Rattle.log.specs.Loaded.{first, Sofar}
 use Rattle.log.specs.Entries.{formed, frames, Formed, entries, Partly, Entered, Allowed}
 use Rattle.log.proofs.Loads.{sofar-of, sofar-more, sofar-ends, sofar-first, bounded-fresh, end-empty, end-all}

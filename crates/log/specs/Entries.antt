@@ -10,12 +10,12 @@ use Rattle.model.specs.Bytes.{frame}
 use Rattle.model.specs.Frames.{framesOf}
 use Rattle.model.specs.Reading.{Reading, refused, accepted, readList}
 use Rattle.model.specs.Reply.{number}
-use Rattle.log.specs.declared.Step.{Step}
-use Rattle.log.specs.declared.Step.the-variants.{Next, Faulty}
+use Rattle.frame.specs.declared.Step.{Step}
+use Rattle.frame.specs.declared.Step.the-variants.{Next, Faulty}
 use Rattle.log.specs.declared.Position.{Position}
 use Rattle.log.specs.declared.Outcome.{Outcome}
 use Rattle.log.specs.declared.Outcome.the-variants.{Accepted, Refused}
-use Rattle.log.specs.State.{Bounded}
+use Rattle.frame.specs.State.{Bounded}
 use Rattle.log.specs.Loaded.{Sofar}
 
 -- Are there frames?

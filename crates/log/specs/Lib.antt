@@ -1,5 +1,2 @@
-pub mod Table
-pub mod State
-pub mod Header
 pub mod Loaded
 pub mod Entries

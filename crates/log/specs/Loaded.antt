@@ -8,16 +8,16 @@ use Rattle.model.specs.Bytes.{linesOf, Item, frame, items}
 use Rattle.model.specs.Frames.{listOf}
 use Rattle.model.specs.Reading.{Reading, Result, refused, accepted, readItems, readLog}
 use Rattle.model.specs.Reply.{number}
-use Rattle.log.specs.declared.State.{State}
+use Rattle.frame.specs.declared.State.{State}
 use Rattle.model.specs.declared.Fault.{Fault}
 use Rattle.log.specs.declared.Loaded.{Loaded}
-use Rattle.log.specs.declared.Step.{Step}
-use Rattle.log.specs.declared.Step.the-variants.{Next, Faulty}
+use Rattle.frame.specs.declared.Step.{Step}
+use Rattle.frame.specs.declared.Step.the-variants.{Next, Faulty}
 use Rattle.log.specs.declared.Position.{Position}
 use Rattle.log.specs.declared.Turn.{Turn}
 use Rattle.log.specs.declared.Outcome.{Outcome}
 use Rattle.log.specs.declared.Outcome.the-variants.{Accepted, Refused}
-use Rattle.log.specs.State.{fresh, Bounded, Holds}
+use Rattle.frame.specs.State.{fresh, Bounded, Holds}
 
 -- The first line, before anything was read.
 abbrev pub first : Position

@@ -1,10 +1,10 @@
 // The frames of a frame list.
 use crate::Outcome;
 use crate::Position;
-use crate::Step;
 use crate::Turn;
 use crate::admit;
-use crate::bytes::wide;
+use frame::Step;
+use frame::bytes::wide;
 ghost use mathlib.Core.Path.{_≡_};
 ghost use Prim.Native.Nat.{_+_, _≤_, _<_};
 ghost use lib.ListN.{length};

@@ -1,66 +1,23 @@
 // Reading frame by frame into an event table, and the operations Read and Write.
-mod bytes;
-mod clock;
-mod event;
 mod frames;
-mod header;
 mod lines;
-mod question;
-mod table;
 
+use frame::Admitted;
+use frame::State;
+use frame::Step;
+use frame::event::event;
+use frame::header::header;
+use frame::question::question;
 ghost use mathlib.Core.Path.{_≡_};
+ghost use mathlib.Core.Bool.{cond};
 ghost use Prim.Native.Nat.{_≤_};
+ghost use lib.Dec.{leb};
 ghost use lib.ListN.{length};
 ghost use Rattle.model.specs.Reply.{readReply, writeReply};
 ghost use Rattle.model.specs.Operations.{readOp, writeOp};
-ghost use Rattle.log.specs.State.{fresh, faultyAt, Bounded, Admits};
+ghost use Rattle.wire.specs.Put.{putOf};
+ghost use Rattle.frame.specs.State.{Bounded, Admits};
 ghost use Rattle.log.specs.Loaded.{first, refusedAt, Loads};
-
-// What has been read, in numbers: counts has the events of each station.
-pub struct State {
-    pub stations: usize,
-    pub events: usize,
-    pub questions: usize,
-    pub counts: [u8; 8],
-}
-
-impl State {
-    // Nothing has been read.
-    pub fn fresh() -> State
-        ensures { λ r. ⌜ r ≡ fresh ⌝ }
-    {
-        State {
-            stations: 0,
-            events: 0,
-            questions: 0,
-            counts: [0u8; model::Log::STATIONS],
-        }
-    }
-}
-
-// Whether a frame was admitted.
-pub enum Step {
-    Next,
-    Faulty(model::Fault),
-}
-
-// A frame's step, and the state after it.
-pub struct Admitted {
-    pub step: Step,
-    pub state: State,
-}
-
-impl Admitted {
-    // A fault after the state s, which stays.
-    pub(crate) fn faulty(s: State, fault: model::Fault) -> Admitted
-        ensures { λ r. ⌜ r ≡ faultyAt s fault ⌝ }
-    {
-        Admitted {
-            step: Step::Faulty(fault),
-            state: s,
-        }
-    }
-}
 
 // Where the next line starts, its number, the length of the frame list so far, and the state.
 pub struct Position {
@@ -130,9 +87,9 @@ pub fn admit(s: State, frame: &[u8], table: &mut [u8]) -> Admitted
 {
     let kind = frame[0];
     match kind {
-        0x10 => header::header(s, frame, table),
-        0x20 => event::event(s, frame, table),
-        0x30 => question::question(s, frame),
+        0x10 => header(s, frame, table),
+        0x20 => event(s, frame, table),
+        0x30 => question(s, frame),
         0x00..=0x0F | 0x11..=0x1F | 0x21..=0x2F | 0x31..=0xFF => Admitted::faulty(
             s,
             model::Fault::Kind,
@@ -151,6 +108,18 @@ pub fn load(log: &[u8], list: &mut [u8], table: &mut [u8]) -> Loaded
     lines::load_lines(log, list, table)
 }
 
+// Puts the frame list of a log at the front of the output, if that has room for any list; tells whether it has.
+fn put_list(list: &[u8], out: &mut [u8]) -> bool
+    requires { ⌜ length (now list) ≤ 4096 ⌝ }
+    ensures { λ r. ⌜ r ≡ leb 4096 (length (now (out .entry))) ⌝ }
+    ensures { λ _. ⌜ now (out .exit) ≡ cond (leb 4096 (length (now (out .entry)))) (putOf (now (out .entry)) 0 (now (list .entry))) (now (out .entry)) ⌝ }
+{
+    if model::Log::LIST <= out.len() {
+        wire::put(list, out, 0);
+    }
+    model::Log::LIST <= out.len()
+}
+
 // Reads a log into the frame list; nothing lent is touched before the last check has passed.
 pub fn read(log: &[u8], out: &mut [u8]) -> model::ReadAnswer
     ensures { λ r. ⌜ readReply r ≡ (readOp (now (log .entry)) (now (out .entry))) .reply ⌝ }
@@ -162,14 +131,13 @@ pub fn read(log: &[u8], out: &mut [u8]) -> model::ReadAnswer
     let outcome = loaded.outcome;
     match outcome {
         Outcome::Accepted => {
-            if out.len() < model::Log::LIST {
+            let k = loaded.length;
+            if !put_list(&list[..k], out) {
                 return model::ReadAnswer::Refused(model::Refusal {
                     fault: model::Fault::Output,
                     line: 0,
                 });
             }
-            let k = loaded.length;
-            wire::put(&list[..k], out, 0);
             let s = loaded.state;
             model::ReadAnswer::Accepted(model::Log {
                 stations: s.stations,

@@ -2,15 +2,15 @@
 use crate::Loaded;
 use crate::Outcome;
 use crate::Position;
-use crate::Step;
 use crate::Turn;
 use crate::admit;
+use frame::Step;
 ghost use mathlib.Core.Path.{_≡_};
 ghost use mathlib.Core.List.{_∷_};
 ghost use Prim.Native.Nat.{_+_, _≤_, _<_};
 ghost use lib.ListN.{length};
 ghost use Rattle.wire.specs.Put.{putOf};
-ghost use Rattle.log.specs.State.{Bounded};
+ghost use Rattle.frame.specs.State.{Bounded};
 ghost use Rattle.log.specs.Loaded.{Tries, Within, Reads, Loads};
 
 // Puts a frame's length and the frame into the list from `at` on.

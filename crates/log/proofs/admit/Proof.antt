@@ -1,6 +1,6 @@
 -- The kind decides, as in the definition. Assumes nothing.
 use Rattle.model.specs.declared.Fault.the-variants.{Kind}
-use Rattle.log.proofs.Steps.{turned, kind-unknown}
+use Rattle.frame.proofs.Steps.{turned, kind-unknown}
 use borrow.Author.Needs.{needs}
 use Rattle.log.proofs.admit.Statement.{statement}
 use Rattle.log.proofs.admit.Tie as tie

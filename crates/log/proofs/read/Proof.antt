@@ -28,26 +28,29 @@ accepts c = loads-accepted _ _ _ _ _ _ (c .before .before .before .before .load 
 long : (c : tie.After-enum-told) → length (c .before .before .before .before .load .last .1 .0) ≡ 4096
 long c = search needs
 
-returns : tie.Need-returns
-returns c = read-no-room (accepts (c .before)) _ (c .if1 .taken)
-
 array-share-prefix-list : tie.Need-array-share-prefix-list
-array-share-prefix-list c = let a = accepts (c .before) in omega (arith, long (c .before), a .short)
+array-share-prefix-list c = let a = accepts c in omega (arith, long c, a .short)
 
-slice-aggregate-put : tie.Need-slice-aggregate-put
-slice-aggregate-put c = let a = accepts (c .before .before) in sym (length-take-le _ _ (omega (arith, long (c .before .before), a .short)))
+slice-aggregate-put-list : tie.Need-slice-aggregate-put-list
+slice-aggregate-put-list c = let a = accepts (c .before) in sym (length-take-le _ _ (omega (arith, long (c .before), a .short)))
 
-put-requires : tie.Need-put-requires
-put-requires c κs = let a = accepts (c .before .before .before) in simp length-take (omega (arith, a .short, c .before .before .if1 .left))
-
-enum-known-outcome : tie.Need-enum-known-outcome
-enum-known-outcome c = search needs
+put-list-requires : tie.Need-put-list-requires
+put-list-requires c κs = let a = accepts (c .before .before) in simp length-take (omega (arith, a .short))
 
 same-length : tie.Need-same-length
 same-length c = search needs
 
+returns : tie.Need-returns
+returns c = let p = c .before .before .before .put-list in read-no-room (accepts (c .before .before .before .before .before .before)) _ _ (p .ensures .0) _ (p .ensures .1) (c .if1 .taken)
+
+enum-known-outcome : tie.Need-enum-known-outcome
+enum-known-outcome c = search needs
+
+same-length-2 : tie.Need-same-length-2
+same-length-2 c = search needs
+
 returns-2 : tie.Need-returns-2
-returns-2 c = read-done (accepts (c .before .before .before .before .before .before .before)) _ (long (c .before .before .before .before .before .before .before)) (c .before .before .before .before .before .before .if1 .left) _ (c .before .before .before .put .ensures)
+returns-2 c = let p = c .before .before .before .before .put-list in read-done (accepts (c .before .before .before .before .before .before .before)) _ _ (p .ensures .0) _ (p .ensures .1) (c .before .if1 .left) (long (c .before .before .before .before .before .before .before))
 
 returns-3 : tie.Need-returns-3
 returns-3 c = let L = c .before .before .before .before .before .load in read-refused _ _ (loads-refused (c .before .before .before .before .before .before .before .before .before .before .args .log .now) (L .result .state) (L .result .length) (L .last .1 .0) (L .last .1 .1 .0) _ (L .ensures) (c .before .outcome .given .1))
@@ -60,11 +63,12 @@ read-spec =
     slice-aggregate-load-2
     load-requires
     enum-told
-    returns
     array-share-prefix-list
-    slice-aggregate-put
-    put-requires
-    enum-known-outcome
+    slice-aggregate-put-list
+    put-list-requires
     same-length
+    returns
+    enum-known-outcome
+    same-length-2
     returns-2
     returns-3)

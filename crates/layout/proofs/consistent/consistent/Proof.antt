@@ -7,8 +7,9 @@ use native.Mathlib.Omega.{arith}
 use lib.ListN.{getD}
 use Rattle.model.specs.Lists.{every}
 use Rattle.model.specs.Computation.{Computation, known}
-use Rattle.log.specs.Table.{Stored}
-use Rattle.layout.proofs.Closed.{wrong-size, wrong-station, right-station, all-right}
+use Rattle.frame.specs.Table.{Stored}
+use Rattle.frame.proofs.Clocks.{every-more, known-not, known-yes}
+use Rattle.layout.proofs.Closed.{sized, wrong-size, wrong-station, all-right}
 use Rattle.layout.proofs.consistent.consistent.Statement.{statement}
 use Rattle.layout.proofs.consistent.consistent.Tie as tie
 
@@ -25,13 +26,17 @@ loop-holds : tie.Need-loop-holds Inv-loop μ-loop
 unfolding every
 loop-holds c = (omega arith, λ K g. refl)
 
-station-closed-requires : tie.Need-station-closed-requires Inv-loop μ-loop
-station-closed-requires c κs =
-    let p = c .before .before .before .before .before .pre in
-    ((omega arith, omega arith, p .0 .1), p .1)
+shared-slice-read-wide : tie.Need-shared-slice-read-wide Inv-loop μ-loop
+shared-slice-read-wide c = search needs
+
+wide-requires : tie.Need-wide-requires Inv-loop μ-loop
+wide-requires c κs = search needs
+
+known-requires : tie.Need-known-requires Inv-loop μ-loop
+known-requires c κs = let p = c .before .before .before .before .before .before .before .pre in ((omega arith, omega arith, p .0 .1), p .1)
 
 returns-2 : tie.Need-returns-2 Inv-loop μ-loop
-returns-2 c = λ K g. wrong-station _ g (c .before .before .before .before .if1 .left) _ _ (c .before .station-closed .ensures K) (c .before .before .loop-test .taken) (c .if2 .taken)
+returns-2 c = λ K g. wrong-station _ g (c .before .before .before .before .before .before .if1 .left) _ (c .before .before .before .before .loop-test .taken) (known-not K _ _ _ _ (c .before .before .wide .ensures .0) _ (c .before .known .ensures K (sized (c .before .before .before .before .before .before .before .before .before .args .cut .now) g (c .before .before .before .before .before .before .if1 .left))) (c .if2 .taken))
 
 add-j : tie.Need-add-j Inv-loop μ-loop
 add-j c = search needs
@@ -40,7 +45,7 @@ loop-less : tie.Need-loop-less Inv-loop μ-loop
 loop-less c = search needs
 
 loop-again : tie.Need-loop-again Inv-loop μ-loop
-loop-again c = (omega arith, λ K g. right-station _ g (c .before .before .before .before .if1 .left) _ _ (c .before .station-closed .ensures K) (c .before .before .before .loop .inv .1 K g) (c .if2 .left))
+loop-again c = (omega arith, λ K g. every-more _ _ (c .before .before .before .before .before .loop .inv .1 K g) (known-yes K _ _ _ _ (c .before .before .wide .ensures .0) _ (c .before .known .ensures K (sized (c .before .before .before .before .before .before .before .before .before .args .cut .now) g (c .before .before .before .before .before .before .if1 .left))) (c .if2 .left)))
 
 returns-3 : tie.Need-returns-3 Inv-loop μ-loop
 returns-3 c = λ K g. all-right _ g (c .before .before .if1 .left) _ (c .before .loop .inv .0) (c .loop-test .left) (c .before .loop .inv .1 K g)
@@ -53,7 +58,9 @@ consistent-spec =
     μ-loop
     returns
     loop-holds
-    station-closed-requires
+    shared-slice-read-wide
+    wide-requires
+    known-requires
     returns-2
     add-j
     loop-less

@@ -1,6 +1,6 @@
 -- The state is the fresh one. Assumes nothing.
 use mathlib.Core.Path.{ap}
-use Rattle.log.specs.declared.State.{State}
+use Rattle.frame.specs.declared.State.{State}
 use Rattle.log.specs.declared.Outcome.the-variants.{Refused}
 use borrow.Author.Needs.{needs}
 use Rattle.log.proofs.Loaded.refused.Statement.{statement}

@@ -1,6 +1,6 @@
 -- The state is the fresh one. Assumes nothing.
 use mathlib.Core.Path.{ap}
-use Rattle.log.specs.declared.State.{State}
+use Rattle.frame.specs.declared.State.{State}
 use borrow.Author.Needs.{needs}
 use Rattle.log.proofs.Position.first.Statement.{statement}
 use Rattle.log.proofs.Position.first.Tie as tie

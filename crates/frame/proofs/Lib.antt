@@ -1,0 +1,8 @@
+pub mod Parts
+pub mod Clocks
+pub mod Slots
+pub mod Steps
+pub mod Headers
+pub mod Extended
+pub mod Events
+pub mod Questions

@@ -1,0 +1,84 @@
+-- Laws of one frame's step: the kind decides, a fault moves nothing, and what a state says of the place. Assumes nothing.
+use mathlib.Core.Path.{_≡_, refl, sym, ap, _∙_}
+use mathlib.Core.Bool.{true, false}
+use mathlib.Core.List.{List, [], _∷_}
+use Prim.Native.Nat.{ℕ, _<_, _≤_}
+use native.Mathlib.Omega.{arith}
+use lib.Dec.{ltb}
+use borrow.Author.Tests.{eq-eqb, ne-eqb, lt-ltb, le-ltb}
+use lib.ListN.{length, getD, drop}
+use Rattle.model.specs.Limits.{limits}
+use Rattle.model.specs.Computation.{stations, eventCount}
+use Rattle.model.specs.Reading.{Reading, begun, unasked, admit, admitHeader, admitEvent, admitQuestion, fault}
+use Rattle.model.specs.Reply.{number}
+use Rattle.model.specs.declared.Fault.{Fault}
+use Rattle.frame.specs.declared.State.{State}
+use Rattle.frame.specs.declared.Admitted.{Admitted}
+use Rattle.frame.specs.State.{faultyAt, Bounded, Holds, Admits}
+
+-- THE KIND
+module _ (r : Reading) where
+  pub kind-header : (f : List ℕ) → 1 ≤ length f → getD f 0 0 ≡ 0x10 → admit limits r f ≡ admitHeader limits r (drop 1 f)
+  unfolding admit
+  kind-header [] l e = absurd (omega arith)
+  kind-header (k ∷ f) l e = rw (eq-eqb k 0x10 e)
+
+  pub kind-event : (f : List ℕ) → 1 ≤ length f → getD f 0 0 ≡ 0x20 → admit limits r f ≡ admitEvent limits r (drop 1 f)
+  unfolding admit
+  kind-event [] l e = absurd (omega arith)
+  kind-event (k ∷ f) l e = rw (ne-eqb k 0x10 (omega arith), eq-eqb k 0x20 e)
+
+  pub kind-question : (f : List ℕ) → 1 ≤ length f → getD f 0 0 ≡ 0x30 → admit limits r f ≡ admitQuestion limits r (drop 1 f)
+  unfolding admit
+  kind-question [] l e = absurd (omega arith)
+  kind-question (k ∷ f) l e = rw (ne-eqb k 0x10 (omega arith), ne-eqb k 0x20 (omega arith), eq-eqb k 0x30 e)
+
+  pub kind-unknown : (f : List ℕ) → (getD f 0 0 ≡ 0x10 → ⊥) → (getD f 0 0 ≡ 0x20 → ⊥) → (getD f 0 0 ≡ 0x30 → ⊥) → admit limits r f ≡ fault 4
+  unfolding admit
+  kind-unknown [] a b c = refl
+  kind-unknown (k ∷ f) a b c = rw (ne-eqb k 0x10 a, ne-eqb k 0x20 b, ne-eqb k 0x30 c)
+
+-- a frame is its kind and what follows
+pub kind-front : (f : List ℕ) (k : ℕ) → 1 ≤ length f → getD f 0 0 ≡ k → k ∷ drop 1 f ≡ f
+kind-front [] k l e = absurd (omega arith)
+kind-front (x ∷ f) k l e = ap (λ (y : ℕ). y ∷ f) (sym e)
+
+-- A FAULT
+pub turned : {s : State} {f t : List ℕ} (x : Fault) (a : Admitted) → a ≡ faultyAt s x → Bounded s → ((r : Reading) → Holds r s t → admit limits r f ≡ fault (number x)) → Admits s f t a t
+turned x a e b h = rw e (record { bounded = b; stepped = h; unmoved = (refl, refl) })
+
+-- a frame of the kind k, after what has been read
+pub record Frame (k : ℕ) (r : Reading) (s : State) (f t : List ℕ) : Type 0 where
+  pub holds : Holds r s t
+  pub some-bytes : 1 ≤ length f
+  pub kind : getD f 0 0 ≡ k
+
+-- THE PLACE
+module _ {r : Reading} {s : State} {t : List ℕ} (h : Holds r s t) where
+  pub begun-not : s .stations ≡ 0 → begun r ≡ false
+  unfolding begun
+  begun-not e = le-ltb 0 (stations (r .computation)) (omega (arith, h .stored .size))
+
+  pub begun-yes : (s .stations ≡ 0 → ⊥) → begun r ≡ true
+  unfolding begun
+  begun-yes e = lt-ltb 0 (stations (r .computation)) (omega (arith, h .stored .size))
+
+  pub unasked-not : (s .questions ≡ 0 → ⊥) → unasked r ≡ false
+  unfolding unasked
+  unasked-not e = ne-eqb (length (r .questions)) 0 (λ z. e (h .questions ∙ z))
+
+  pub unasked-yes : s .questions ≡ 0 → unasked r ≡ true
+  unfolding unasked
+  unasked-yes e = eq-eqb (length (r .questions)) 0 (sym (h .questions) ∙ e)
+
+  pub events-full : 127 ≤ s .events → ltb (eventCount (r .computation)) (limits .events) ≡ false
+  events-full e = le-ltb (eventCount (r .computation)) 127 (omega (arith, h .events))
+
+  pub events-room : s .events < 127 → ltb (eventCount (r .computation)) (limits .events) ≡ true
+  events-room e = lt-ltb (eventCount (r .computation)) 127 (omega (arith, h .events))
+
+  pub questions-full : 16 ≤ s .questions → ltb (length (r .questions)) (limits .questions) ≡ false
+  questions-full e = le-ltb (length (r .questions)) 16 (omega (arith, h .questions))
+
+  pub questions-room : s .questions < 16 → ltb (length (r .questions)) (limits .questions) ≡ true
+  questions-room e = lt-ltb (length (r .questions)) 16 (omega (arith, h .questions))
