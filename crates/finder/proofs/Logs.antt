@@ -30,7 +30,7 @@ use Rattle.log.specs.declared.Outcome.{Outcome}
 use Rattle.log.specs.declared.Outcome.the-variants.{Accepted, Refused}
 use Rattle.log.specs.Loaded.{Accepts, Loads}
 use Rattle.layout.specs.Loaded.{Loaded}
-use Rattle.finder.specs.Questions.{Asks, Question}
+use Rattle.verdict.specs.Questions.{Asks, Question}
 
 -- There is a question at each number below their count, and none from there on.
 

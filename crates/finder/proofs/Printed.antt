@@ -17,7 +17,8 @@ use Rattle.model.specs.Operations.{answerLines, printedOf, printed}
 use Rattle.codec.proofs.Demands.{asked-line-fits}
 use Rattle.frame.specs.declared.State.{State}
 use Rattle.report.specs.Written.{Written}
-use Rattle.finder.specs.Questions.{Asks, Question, Prepared}
+use Rattle.verdict.specs.Questions.{Asks, Question}
+use Rattle.finder.specs.Prepared.{Prepared}
 use Rattle.finder.proofs.Logs.{question-there, question-count, asks, is-asked, question}
 
 put-end : (k : ℕ) (w p : List ℕ) → k ≤ length w → putMid k (length w - k) w p ≡ take k w ++ p

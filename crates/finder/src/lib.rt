@@ -1,10 +1,7 @@
 // The operations Answer and Holds, and all that the program prints.
-mod frames;
-mod question;
-
-use crate::frames::question_at;
-use crate::question::put_line;
-use crate::question::true_at;
+use verdict::frames::question_at;
+use verdict::question::put_line;
+use verdict::question::true_at;
 ghost use mathlib.Core.Path.{_≡_};
 ghost use mathlib.Core.List.{List, [], _∷_, _++_};
 ghost use mathlib.Core.Option.{some};
@@ -18,7 +15,7 @@ ghost use Rattle.model.specs.Operations.{Kept, cramped, answerOp, holdsOp, answ
 ghost use Rattle.model.specs.Promise.{Asked, Answered, Tested};
 ghost use Rattle.report.specs.Written.{Written};
 ghost use Rattle.log.specs.Loaded.{Accepts};
-ghost use Rattle.finder.specs.Questions.{Prepared};
+ghost use Rattle.finder.specs.Prepared.{Prepared};
 
 // The cells of the workspace and of the bar space, and the bytes of the longest answer line.
 pub const WORKSPACE: usize = 65536;

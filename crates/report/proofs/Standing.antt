@@ -85,6 +85,6 @@ take-zeros (suc n) zero h = absurd (omega arith)
 take-zeros (suc n) (suc m) h = ap (λ (l : List ℕ). 0 ∷ l) (take-zeros n m (omega arith))
 
 -- The first n of eight zeros are the cut that holds no event.
-pub belongs-empty : (n k : ℕ) (counts ws bs : List ℕ) {b : Bool} → n ≤ 8 → b ≡ belongsAny (standing n counts k ws bs) (take n (replicate 8 0))
+pub belongs-empty : (n k : ℕ) (counts ws bs : List ℕ) {b : Bool} {cut : List ℕ} → n ≤ 8 → cut ≡ replicate 8 0 → b ≡ belongsAny (standing n counts k ws bs) (take n cut)
     → b ≡ belongsAny (standing n counts k ws bs) (empty n)
-belongs-empty n k counts ws bs h e = e ∙ ap (belongsAny (standing n counts k ws bs)) (take-zeros n 8 h)
+belongs-empty n k counts ws bs h z e = e ∙ ap (belongsAny (standing n counts k ws bs)) (ap (take n) z ∙ take-zeros n 8 h)

@@ -191,7 +191,7 @@ pub fn starts(
     requires { ⌜ Stands n e (now counts) count (now ws) (now bs) ⌝ }
     ensures { λ r. ⌜ r ≡ belongsAny (standing n (take n (now (counts .entry))) count (now (ws .entry)) (now (bs .entry))) (empty n) ⌝ }
 {
-    let cut = [0u8; 8];
+    let cut = model::Log::empty_cut();
     belongs_any(ws, bs, count, n, e, counts, offs, &cut)
 }
 

@@ -5,14 +5,17 @@ use borrow.Author.Needs.{needs}
 use Rattle.report.proofs.starts.Statement.{statement}
 use Rattle.report.proofs.starts.Tie as tie
 
+empty-cut-requires : tie.Need-empty-cut-requires
+empty-cut-requires c κs = search needs
+
 belongs-any-requires : tie.Need-belongs-any-requires
 belongs-any-requires c κs = search needs
 
 returns : tie.Need-returns
 returns c =
-    let s = c .before .before .before .before in
+    let s = c .before .before .before .before .before in
     let a = s .args in
-    belongs-empty (a .n) (a .count) (take (a .n) (a .counts .now)) (a .ws .now) (a .bs .now) (s .pre .0 .few-stations) (c .belongs-any .ensures)
+    belongs-empty (a .n) (a .count) (take (a .n) (a .counts .now)) (a .ws .now) (a .bs .now) (s .pre .0 .few-stations) (c .before .before .empty-cut .ensures) (c .belongs-any .ensures)
 
 pub starts-spec : {M : Type 1} → statement M
-starts-spec = tie.close (tie.spec belongs-any-requires returns)
+starts-spec = tie.close (tie.spec empty-cut-requires belongs-any-requires returns)

@@ -1,4 +1,4 @@
--- A question of a loaded log: where its bytes stand, and what is known when it is worked out.
+-- A question of a log: where its bytes stand, and what is known when it is worked out.
 use mathlib.Core.Path.{_≡_}
 use Prim.Native.Nat.{ℕ, _<_}
 use mathlib.Core.Bool.{true}
@@ -8,8 +8,6 @@ use Rattle.model.specs.Frames.{listOf}
 use Rattle.model.specs.Formula.{Formula, prefix, sound}
 use Rattle.model.specs.Size.{fits}
 use Rattle.model.specs.Computation.{Computation}
-use Rattle.frame.specs.declared.State.{State}
-use Rattle.log.specs.Loaded.{Accepts}
 use Rattle.structure.specs.Laid.{Laid}
 
 -- A list of frames has a frame at an index.
@@ -31,10 +29,3 @@ pub record Question (K : Computation) (f : Formula) (q : List ℕ) (n e : ℕ) (
   pub spells : q ≡ prefix f
   pub named : sound n f ≡ true
   pub fitting : fits f ≡ true
-
--- A log was loaded into s and the first k bytes of list, and its computation is laid out.
-pub record Prepared (s : State) (k : ℕ) (list offs starts values : List ℕ) : Type 0 where
-  pub log : List ℕ
-  pub table : List ℕ
-  pub accepts : Accepts log s k list table
-  pub laid : Laid (accepts .reading .computation) (s .stations) (s .events) (s .counts) offs starts values

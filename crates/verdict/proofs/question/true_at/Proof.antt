@@ -1,9 +1,9 @@
 -- `true_at` meets its contract: a cut belongs to the basis exactly where the question is true. Assumes nothing.
 use native.Mathlib.Omega.{arith}
 use borrow.Author.Needs.{needs}
-use Rattle.finder.proofs.Bases.{room, stations-known, stands, cut-told}
-use Rattle.finder.proofs.question.true_at.Statement.{statement}
-use Rattle.finder.proofs.question.true_at.Tie as tie
+use Rattle.verdict.proofs.Bases.{room, stations-known, stands, cut-told}
+use Rattle.verdict.proofs.question.true_at.Statement.{statement}
+use Rattle.verdict.proofs.question.true_at.Tie as tie
 
 basis-true-requires : tie.Need-basis-true-requires
 basis-true-requires c κs = room (c .before .before .before .before .before .before .before .before .pre .0 .2) _ _ (c .before .before .before .before .before .before .before .before .pre .1 .1) (c .before .before .before .before .before .before .before .before .pre .1 .2)

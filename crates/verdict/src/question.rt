@@ -6,7 +6,7 @@ ghost use Rattle.model.specs.Formula.{Formula};
 ghost use Rattle.model.specs.Computation.{Computation};
 ghost use Rattle.model.specs.Answer.{trueAt, answer, answerLine};
 ghost use Rattle.report.specs.Written.{Written};
-ghost use Rattle.finder.specs.Questions.{Question};
+ghost use Rattle.verdict.specs.Questions.{Question};
 
 // The answer's line at the front of `out`; hands back its length.
 pub fn put_line(
@@ -26,12 +26,7 @@ pub fn put_line(
     ensures { λ r. ⌜ ((K : Computation) (f : Formula) → Question K f (now (q .entry)) n e (now (counts .entry)) (now (offs .entry)) (now (starts .entry)) (now (values .entry)) → Written (answerLine (answer K f)) r (now (out .entry)) (now (out .exit))) ⌝ }
 {
     let basis = basis::basis_true(q, ws, bs, n, e, counts, offs, starts, values);
-    let count = basis.count;
-    let mut cuts = [0u8; 128];
-    let listed = report::list_cuts(ws, count, n, e, &mut cuts);
-    let none = model::Log::empty_cut();
-    let start = report::belongs_any(ws, bs, count, n, e, counts, offs, &none);
-    report::put_answer(start, &cuts, listed, n, basis.rounds, out)
+    report::write_answer(ws, bs, basis.count, n, e, counts, offs, basis.rounds, out)
 }
 
 // Is the question true at a cut of n counts?

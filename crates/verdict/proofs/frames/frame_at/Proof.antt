@@ -2,9 +2,9 @@
 use Prim.Native.Nat.{_≤_, _-_}
 use native.Mathlib.Omega.{arith}
 use borrow.Author.Needs.{needs}
-use Rattle.finder.proofs.Walks.{Passed, passed-none, passed-more, passed-all, reached}
-use Rattle.finder.proofs.frames.frame_at.Statement.{statement}
-use Rattle.finder.proofs.frames.frame_at.Tie as tie
+use Rattle.verdict.proofs.Walks.{Passed, passed-none, passed-more, passed-all, reached}
+use Rattle.verdict.proofs.frames.frame_at.Statement.{statement}
+use Rattle.verdict.proofs.frames.frame_at.Tie as tie
 
 abbrev Inv-loop : tie.InvT-loop
 Inv-loop list index at₀ i₀ at i = (i ≤ index) × Passed list index at i

@@ -3,7 +3,7 @@ ghost use mathlib.Core.Path.{_≡_};
 ghost use mathlib.Core.List.{List, []};
 ghost use Prim.Native.Nat.{ℕ, _≤_, _<_};
 ghost use lib.ListN.{length, getD};
-ghost use Rattle.finder.specs.Questions.{Indexed, Asks};
+ghost use Rattle.verdict.specs.Questions.{Indexed, Asks};
 
 // A byte as a number.
 fn wide(x: u8) -> usize
