@@ -113,4 +113,5 @@ def main():
     (folder / "stdout").write_text("".join(stdout))
 
 
-main()
+if __name__ == "__main__":
+    main()

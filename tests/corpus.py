@@ -163,4 +163,5 @@ def main():
     (folder / "stdout").write_bytes(b"".join(printed(log) + b".\n" for log in made))
 
 
-main()
+if __name__ == "__main__":
+    main()

@@ -100,6 +100,14 @@ pub fn lift(
     }
 }
 
+// The rounds of two operands: the right one is worked out also where the left basis is empty.
+pub fn rounds_of(l: Basis, r: Basis) -> u32
+    requires { ⌜ (l .rounds ≤ 16777216) × (r .rounds ≤ 16777216) ⌝ }
+    ensures { λ s. ⌜ s ≡ l .rounds + r .rounds ⌝ }
+{
+    l.rounds + r.rounds
+}
+
 // Two bases that stand one behind the other: their pairs, or both.
 pub fn combine(
     ws: &mut [u8],
@@ -122,7 +130,7 @@ pub fn combine(
     let a = l.count;
     let b = r.count;
     let used = l.used + 1 + r.used;
-    let rounds = l.rounds + r.rounds;
+    let rounds = rounds_of(l, r);
     if pair {
         let c = pairs::pair_all(ws, bs, a, b, n, e, counts, offs, starts);
         return Basis {

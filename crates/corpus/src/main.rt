@@ -1,41 +1,4 @@
 // Answers each log of standard input. A log is closed by a line with a full stop; so is what is printed for it.
-ghost use Prim.Native.Nat.{_≤_};
-ghost use lib.ListN.{length};
-
-// Does a line with only a full stop start at i, in the log that starts at `at`?
-fn closes(input: &[u8], at: usize, i: usize) -> bool {
-    if input.len() <= i {
-        return false;
-    }
-    if input.len() - i < 2 {
-        return false;
-    }
-    if input[i] != b'.' {
-        return false;
-    }
-    if input[i + 1] != 0x0A {
-        return false;
-    }
-    if i <= at {
-        return true;
-    }
-    input[i - 1] == 0x0A
-}
-
-// Where the log that starts at `at` ends: at its closing line, or with the input.
-fn log_end(input: &[u8], at: usize) -> usize
-    requires { ⌜ at ≤ length (now input) ⌝ }
-    ensures { λ r. ⌜ (at ≤ r) × (r ≤ length (now (input .entry))) ⌝ }
-{
-    let mut i = at;
-    while i < input.len() {
-        if closes(input, at, i) {
-            return i;
-        }
-        i += 1;
-    }
-    i
-}
 
 // Prints the program's answer to one log, and a line with a full stop.
 fn answer(log: &[u8]) {
@@ -49,7 +12,7 @@ fn answer(log: &[u8]) {
 fn answer_all(input: &[u8]) {
     let mut at = 0;
     while at < input.len() {
-        let end = log_end(input, at);
+        let end = trial::log_end(input, at);
         answer(&input[at..end]);
         if input.len() - end < 2 {
             return;

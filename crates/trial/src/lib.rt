@@ -1,8 +1,8 @@
-// What the test programs share: lent slices with a known content, and printing.
+// What the test programs share: lent slices with a known content, printing, and the logs of an input.
 use model::Refusal;
 ghost use mathlib.Core.Path.{_≡_};
-ghost use Prim.Native.Nat.{_+_, _*_};
-ghost use lib.ListN.{drop};
+ghost use Prim.Native.Nat.{_+_, _*_, _≤_};
+ghost use lib.ListN.{length, drop};
 ghost use Rattle.trial.specs.Lent.{lent};
 
 // What lent slices hold before a call.
@@ -49,4 +49,39 @@ pub fn word(high: u8, low: u8) -> usize
     ensures { λ r. ⌜ r ≡ 256 * high + low ⌝ }
 {
     high as usize * 256 + low as usize
+}
+
+// Does a line with only a full stop start at i, in the log that starts at `at`?
+fn closes(input: &[u8], at: usize, i: usize) -> bool {
+    if input.len() <= i {
+        return false;
+    }
+    if input.len() - i < 2 {
+        return false;
+    }
+    if input[i] != b'.' {
+        return false;
+    }
+    if input[i + 1] != 0x0A {
+        return false;
+    }
+    if i <= at {
+        return true;
+    }
+    input[i - 1] == 0x0A
+}
+
+// Where the log that starts at `at` ends: at its closing line, or with the input.
+pub fn log_end(input: &[u8], at: usize) -> usize
+    requires { ⌜ at ≤ length (now input) ⌝ }
+    ensures { λ r. ⌜ (at ≤ r) × (r ≤ length (now (input .entry))) ⌝ }
+{
+    let mut i = at;
+    while i < input.len() {
+        if closes(input, at, i) {
+            return i;
+        }
+        i += 1;
+    }
+    i
 }

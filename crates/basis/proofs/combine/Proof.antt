@@ -1,5 +1,6 @@
 -- The pairs, or one basis after the other as they stand.
-use mathlib.Core.Path.{refl}
+use Prim.Native.Nat.{ℕ, _+_}
+use mathlib.Core.Path.{refl, ap}
 use native.Mathlib.Omega.{arith}
 use Rattle.basis.proofs.Operands as laws
 use borrow.Author.Needs.{needs}
@@ -12,17 +13,17 @@ add-used c = search needs
 add-used-2 : tie.Need-add-used-2
 add-used-2 c = search needs
 
-add-rounds : tie.Need-add-rounds
-add-rounds c = search needs
+rounds-of-requires : tie.Need-rounds-of-requires
+rounds-of-requires c κs = search needs
 
 pair-all-requires : tie.Need-pair-all-requires
 pair-all-requires c κs =
-    let p = c .before .before .before .before .before .before .before .before .before .before .pre in
+    let p = c .before .before .before .before .before .before .before .before .before .pre in
     (p .0, ((p .1 .0 .8, p .1 .0 .0, p .1 .0 .1), p .1 .1 .1 (c .before .before .if1 .taken)))
 
 add-t22 : tie.Need-add-t22
 add-t22 c =
-    omega (arith, c .before .before .before .before .before .pair-all .ensures .small, c .before .before .before .before .before .before .before .before .before .before .before .before .before .before .before .before .pre .1 .0)
+    omega (arith, c .before .before .before .before .before .pair-all .ensures .small, c .before .before .before .before .before .before .before .before .before .rounds-of .ensures, c .before .before .before .before .before .before .before .before .before .before .before .before .before .before .before .pre .1 .0)
 
 same-length : tie.Need-same-length
 same-length c = search needs
@@ -32,16 +33,16 @@ same-length-2 c = search needs
 
 returns : tie.Need-returns
 returns c =
-    let a = c .before .before .before .before .before .before .before .before .before .before .before .before .before .before .before .before .args in
-    (refl, laws.combined-pairs (a .n) (a .e) (a .l .count) (a .r .count) (a .l .rounds) (a .r .rounds) (a .counts .now) (a .starts .now) (a .ws .now) _ (a .bs .now) _ _ _ _ (a .pair) (c .before .before .before .before .before .before .before .before .if1 .taken) refl (c .before .before .before .before .before .pair-all .ensures))
+    let a = c .before .before .before .before .before .before .before .before .before .before .before .before .before .before .before .args in
+    (refl, laws.combined-pairs (a .n) (a .e) (a .l .count) (a .r .count) (a .l .rounds) (a .r .rounds) (a .counts .now) (a .starts .now) (a .ws .now) _ (a .bs .now) _ _ _ _ (a .pair) (c .before .before .before .before .before .before .before .before .if1 .taken) (ap (λ (x : ℕ). x + c .before .before .before .before .before .pair-all .result .rounds) (c .before .before .before .before .before .before .before .before .before .rounds-of .ensures)) (c .before .before .before .before .before .pair-all .ensures))
 
 add-t16 : tie.Need-add-t16
 add-t16 c = search needs
 
 returns-2 : tie.Need-returns-2
 returns-2 c =
-    let a = c .before .before .before .before .before .before .before .before .args in
-    (refl, laws.combined-all (a .n) (a .e) (a .l .count) (a .r .count) (a .l .rounds) (a .r .rounds) (a .counts .now) (a .starts .now) (a .ws .now) (a .bs .now) _ _ (a .pair) (c .if1 .left) refl refl (c .before .before .before .before .before .before .before .before .pre .1 .1 .0))
+    let a = c .before .before .before .before .before .before .before .args in
+    (refl, laws.combined-all (a .n) (a .e) (a .l .count) (a .r .count) (a .l .rounds) (a .r .rounds) (a .counts .now) (a .starts .now) (a .ws .now) (a .bs .now) _ _ (a .pair) (c .if1 .left) refl (c .before .rounds-of .ensures) (c .before .before .before .before .before .before .before .pre .1 .1 .0))
 
 pub combine-spec : {M : Type 1} → statement M
 combine-spec =
@@ -49,7 +50,7 @@ combine-spec =
     (tie.spec
     add-used
     add-used-2
-    add-rounds
+    rounds-of-requires
     pair-all-requires
     add-t22
     same-length

@@ -1,9 +1,9 @@
--- `corpus::log_end`: what is passed stays between the start and the length of the input. Assumes nothing.
+-- `trial::log_end`: what is passed stays between the start and the length of the input. Assumes nothing.
 use Prim.Native.Nat.{_≤_, _-_}
 use lib.ListN.{length}
 use borrow.Author.Needs.{needs}
-use Rattle.corpus.proofs.log_end.Statement.{statement}
-use Rattle.corpus.proofs.log_end.Tie as tie
+use Rattle.trial.proofs.log_end.Statement.{statement}
+use Rattle.trial.proofs.log_end.Tie as tie
 
 abbrev Inv-loop : tie.InvT-loop
 Inv-loop input at i₀ i = (at ≤ i) × (i ≤ length input)

@@ -1,0 +1,70 @@
+-- `bases::print_log`: a log that is accepted is as loading says. Assumes nothing.
+use native.Mathlib.Omega.{arith}
+use Rattle.finder.proofs.Logs.{to-accepts}
+use borrow.Author.Needs.{needs}
+use Rattle.bases.proofs.print_log.Statement.{statement}
+use Rattle.bases.proofs.print_log.Tie as tie
+
+slice-aggregate-load : tie.Need-slice-aggregate-load
+slice-aggregate-load c = search needs
+
+slice-aggregate-load-2 : tie.Need-slice-aggregate-load-2
+slice-aggregate-load-2 c = search needs
+
+load-requires : tie.Need-load-requires
+load-requires c κs = search needs
+
+enum-known-outcome : tie.Need-enum-known-outcome
+enum-known-outcome c = search needs
+
+print-refusal-requires : tie.Need-print-refusal-requires
+print-refusal-requires c κs = search needs
+
+slice-aggregate-write-all : tie.Need-slice-aggregate-write-all
+slice-aggregate-write-all c = search needs
+
+write-all-requires : tie.Need-write-all-requires
+write-all-requires c κs = search needs
+
+enum-told : tie.Need-enum-told
+enum-told c = search needs
+
+slice-aggregate-print-loaded : tie.Need-slice-aggregate-print-loaded
+slice-aggregate-print-loaded c = search needs
+
+slice-aggregate-print-loaded-2 : tie.Need-slice-aggregate-print-loaded-2
+slice-aggregate-print-loaded-2 c = search needs
+
+print-loaded-requires : tie.Need-print-loaded-requires
+print-loaded-requires c κs =
+    let l = c .before .before .before .before .before .before .before .load in
+    let a = to-accepts _ _ _ _ _ _ (l .ensures) (c .before .before .before .enum-told .given .1) in
+    ((omega (arith, a .short, l .kept), omega (arith, l .kept)), (_, a))
+
+slice-aggregate-write-all-2 : tie.Need-slice-aggregate-write-all-2
+slice-aggregate-write-all-2 c = search needs
+
+write-all-requires-2 : tie.Need-write-all-requires-2
+write-all-requires-2 c κs = search needs
+
+returns : tie.Need-returns
+returns c = search needs
+
+pub print-log-spec : {M : Type 1} → statement M
+print-log-spec =
+    tie.close
+    (tie.spec
+    slice-aggregate-load
+    slice-aggregate-load-2
+    load-requires
+    enum-known-outcome
+    print-refusal-requires
+    slice-aggregate-write-all
+    write-all-requires
+    enum-told
+    slice-aggregate-print-loaded
+    slice-aggregate-print-loaded-2
+    print-loaded-requires
+    slice-aggregate-write-all-2
+    write-all-requires-2
+    returns)

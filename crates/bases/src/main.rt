@@ -1,0 +1,173 @@
+// Prints the basis of each question of the logs of standard input: for each structure its least cut, its greatest cut and its bars.
+// A log is closed by a line with a full stop; so is what is printed for it.
+ghost use mathlib.Core.Path.{_≡_};
+ghost use mathlib.Core.List.{List};
+ghost use Prim.Native.Nat.{ℕ, _+_, _*_, _≤_, _<_};
+ghost use lib.ListN.{length};
+ghost use Rattle.model.specs.Formula.{Formula};
+ghost use Rattle.model.specs.Computation.{Computation};
+ghost use Rattle.log.specs.Loaded.{Accepts};
+ghost use Rattle.verdict.specs.Questions.{Question};
+ghost use Rattle.finder.specs.Prepared.{Prepared};
+
+// A name and a number, on a line.
+fn print_count(name: &[u8], count: u64) {
+    io::write_all(1, name);
+    io::write_all(1, b" ");
+    io::print_decimal(1, count);
+    io::write_all(1, b"\n");
+}
+
+// A name and the counts of a cut, on a line.
+fn print_cut(name: &[u8], cut: &[u8]) {
+    io::write_all(1, name);
+    let mut i = 0;
+    while i < cut.len() {
+        trial::print_number(structure::wide(cut[i]));
+        i += 1;
+    }
+    io::write_all(1, b"\n");
+}
+
+// The bars at a place.
+fn print_bars(bs: &[u8], at: usize, n: usize)
+    requires { ⌜ (0 < n) × (n ≤ 8) × (at + 16 * n ≤ length (now bs)) ⌝ }
+{
+    let mut i = 0;
+    while i < 16 {
+        let from = at + i * n;
+        if bs[from] == structure::NONE {
+            return;
+        }
+        print_cut(b"bar", &bs[from..from + n]);
+        i += 1;
+    }
+}
+
+// The structure at a place of the workspace, with its bars.
+fn print_structure(ws: &[u8], at: usize, bs: &[u8], bar: usize, n: usize, e: usize)
+    requires { ⌜ (0 < n) × (n ≤ 8) × (e ≤ 127) × (at + (e + 1) * n ≤ length (now ws)) × (bar + 16 * n ≤ length (now bs)) ⌝ }
+{
+    print_cut(b"least", &ws[at..at + n]);
+    let mut greatest = [0u8; 8];
+    structure::greatest(ws, at, n, e, &mut greatest);
+    print_cut(b"greatest", &greatest[..n]);
+    print_bars(bs, bar, n);
+}
+
+// The structures at the front of the workspace.
+fn print_structures(ws: &[u8], bs: &[u8], count: usize, n: usize, e: usize)
+    requires { ⌜ (0 < n) × (n ≤ 8) × (e ≤ 127) × (count ≤ 16) × (count * ((e + 1) * n) ≤ length (now ws)) × (count * (16 * n) ≤ length (now bs)) ⌝ }
+{
+    let size = (e + 1) * n;
+    let slot = 16 * n;
+    let mut i = 0;
+    while i < count {
+        print_structure(ws, i * size, bs, i * slot, n, e);
+        i += 1;
+    }
+}
+
+// The basis of one question, and its rounds.
+fn print_basis(
+    q: &[u8],
+    n: usize,
+    e: usize,
+    counts: &[u8; 8],
+    offs: &[u8; 8],
+    starts: &[u8],
+    values: &[u16],
+    ws: &mut [u8],
+    bs: &mut [u8],
+)
+    requires { ⌜ ((K : Computation) × (f : Formula) × Question K f (now q) n e (now counts) (now offs) (now starts) (now values)) ⌝ }
+    requires { ⌜ (65536 ≤ length (now ws)) × (8192 ≤ length (now bs)) ⌝ }
+{
+    let basis = basis::basis_true(q, ws, bs, n, e, counts, offs, starts, values);
+    let count = basis.count;
+    print_count(b"structures", count as u64);
+    print_structures(ws, bs, count, n, e);
+    print_count(b"rounds", basis.rounds as u64);
+}
+
+// The bases of all questions of a log that is laid out.
+fn print_questions(
+    list: &[u8],
+    k: usize,
+    s: frame::State,
+    offs: &[u8; 8],
+    starts: &[u8],
+    values: &[u16],
+    ws: &mut [u8],
+    bs: &mut [u8],
+)
+    requires { ⌜ (k ≤ length (now list)) × (65536 ≤ length (now ws)) × (8192 ≤ length (now bs)) ⌝ }
+    requires { ⌜ Prepared s k (now list) (now offs) (now starts) (now values) ⌝ }
+{
+    let n = s.stations;
+    let e = s.events;
+    let counts = s.counts;
+    let mut i = 0;
+    while i < s.questions {
+        let q = verdict::frames::question_at(list, k, e + 1 + i);
+        print_basis(q, n, e, &counts, offs, starts, values, ws, bs);
+        i += 1;
+    }
+}
+
+// The same for a log that is loaded.
+fn print_loaded(list: &[u8], k: usize, table: &[u8], s: frame::State)
+    requires { ⌜ (k ≤ length (now list)) × (length (now table) ≡ 10240) ⌝ }
+    requires { ⌜ ((log : List ℕ) × Accepts log s k (now list) (now table)) ⌝ }
+{
+    let counts = s.counts;
+    let mut starts = [0u8; 1024];
+    let mut values = [0u16; 135];
+    let offs = layout::lay(table, s.stations, &counts, &mut starts, &mut values);
+    let mut ws = [0u8; finder::WORKSPACE];
+    let mut bs = [0u8; finder::BARSPACE];
+    print_questions(list, k, s, &offs, &starts, &values, &mut ws, &mut bs);
+}
+
+// The bases of a log, or its refusal.
+fn print_log(log: &[u8]) {
+    let mut list = [0u8; 4096];
+    let mut table = [0u8; 10240];
+    let loaded = log::load(log, &mut list, &mut table);
+    let outcome = loaded.outcome;
+    match outcome {
+        log::Outcome::Refused(refusal) => {
+            trial::print_refusal(refusal);
+            io::write_all(1, b"\n");
+        }
+        log::Outcome::Accepted => {
+            let s = loaded.state;
+            print_loaded(&list, loaded.length, &table, s);
+        }
+    }
+    io::write_all(1, b".\n");
+}
+
+// The logs of the input one after the other.
+fn print_all(input: &[u8]) {
+    let mut at = 0;
+    while at < input.len() {
+        let end = trial::log_end(input, at);
+        print_log(&input[at..end]);
+        if input.len() - end < 2 {
+            return;
+        }
+        at = end + 2;
+    }
+}
+
+// Room for the input. It is made here so that no other proof has to look at its cells.
+fn blank() -> [u8; 65536] {
+    [0u8; 65536]
+}
+
+fn main() {
+    let mut space = blank();
+    let n = io::read_full(0, &mut space);
+    print_all(&space[..n]);
+}

@@ -1,0 +1,209 @@
+#!/usr/bin/env python3
+"""Makes logs with questions, and the basis of each question by document 01's rule.
+
+Usage: bases.py FOLDER [SEED]      writes FOLDER/stdin and FOLDER/stdout; the same arguments give the same bytes
+The bench log and others, up to 8 stations, 127 events and a width of 16. A set of cuts is kept as the function that raises a cut in
+it, never as rows, so that no code or shape is shared with the product. Where the cuts are few a plain listing has to agree.
+"""
+import pathlib
+import sys
+from functools import cache
+from math import prod
+
+from bench_cases import ALL, ladder
+from corpus import Draw, formula, word
+from listing import Listing, Refused, admit, contained, encode, joined_as, read
+
+SEED, LISTED = 20261115, 1500
+
+
+def join(c, d):
+    return tuple(map(max, c, d))
+
+
+class Structure:
+    """A set of cuts with bars: its raising function, its least and its greatest cut."""
+
+    def __init__(self, raised, least, top, bars):
+        self.raised, self.least, self.top, self.bars = raised, least, top, bars
+
+
+class Rule:
+    """The bases of a log's questions, and the rounds of the one worked out last."""
+
+    def __init__(self, log):
+        self.log, self.rounds = log, 0
+        self.empty = (0,) * len(log.initial)
+        self.starts = [self.empty] + [clock for events in log.history for _, clock in events]
+
+    def kept(self, raised, bars):
+        """A structure, unless it is dropped."""
+        raised = cache(raised)
+        least = top = raised(self.empty)
+        if least is None:
+            return []
+        for c in map(raised, self.starts):
+            top = top if c is None else join(top, c)
+        return [] if any(contained(top, b) for b in bars) else [Structure(raised, least, top, bars)]
+
+    def atom(self, s, lo, hi, sign):
+        def raised(c):
+            for k in range(c[s], len(self.log.history[s]) + 1):
+                if (lo <= self.log.value(s, k) <= hi) == sign:
+                    return join(c, self.log.clock(s, k))
+            return None
+
+        return self.kept(raised, [])
+
+    def pair(self, left, right):
+        def start(c):
+            rounds = 0
+            while True:
+                rounds += 1
+                d = left.raised(c)
+                d = d and right.raised(d)
+                if d is None or d == c:
+                    return d, rounds
+                c = d
+
+        self.rounds += sum(start(c)[1] for c in self.starts)
+        return self.kept(lambda c: start(c)[0], left.bars + right.bars)
+
+    def below(self, top):
+        return self.kept(lambda c: c if contained(c, top) else None, [])
+
+    def basis(self, f, sign):
+        t = f[0]
+        if t == 1:
+            return self.atom(*f[1:], sign)
+        if t == 2:
+            return self.basis(f[1], not sign)
+        if t in (3, 4):
+            left, right = self.basis(f[1], sign), self.basis(f[2], sign)
+            if joined_as(t, sign) == "or":
+                return left + right
+            return [s for x in left for y in right for s in self.pair(x, y)]
+        operand = self.basis(f[1], t == 5)
+        if joined_as(t, sign) == "possibly":
+            return [s for x in operand for s in self.below(x.top)]
+        return self.kept(lambda c: c, [x.top for x in operand])
+
+    def question(self, f):
+        """Least cut, greatest cut and bars of each structure, and the rounds."""
+        self.rounds = 0
+        basis = self.basis(f, True)
+        return [(s.least, s.top, s.bars) for s in basis], self.rounds
+
+
+def listed(log, f):
+    """The same by a plain listing."""
+    listing = Listing(log)
+    basis = listing.basis(f, True)
+    return [(listing.raised(cuts, listing.empty), top, bars) for cuts, bars, top in basis], listing.rounds
+
+
+def printed(data):
+    """What is printed for a log."""
+    try:
+        log = read(data)
+    except Refused as r:
+        return f" refused {r.number} {r.line}\n"
+    rule, lines = Rule(log), []
+
+    def line(name, numbers):
+        lines.append(" ".join([name, *map(str, numbers)]) + "\n")
+
+    few = prod(len(events) + 1 for events in log.history) <= LISTED
+    for f in log.questions:
+        basis, rounds = rule.question(f)
+        if few and (basis, rounds) != listed(log, f):
+            sys.exit(f"rule and listing differ on {f}")
+        line("structures", [len(basis)])
+        for least, top, bars in basis:
+            line("least", least)
+            line("greatest", top)
+            for bar in bars:
+                line("bar", bar)
+        line("rounds", [rounds])
+    return "".join(lines)
+
+
+def atom(d, n, most=6):
+    """A range of at most so many of the eight values."""
+    lo = d.below(8)
+    return [1, d.below(n)] + word(lo) + word(min(lo + d.below(most), 7))
+
+
+def part(d, n):
+    """One structure, sometimes with a bar."""
+    return d.pick([[], [], [], [2], [5], [2, 6], [2, 5], [6, 2]]) + atom(d, n)
+
+
+def wide(d, n):
+    """Parts in ors, the ors joined by and: a width of 4 to 16, at most 12 parts."""
+    ways = d.pick([[2, 2], [2, 3], [3, 3], [2, 2, 2], [2, 2, 3], [4, 4], [2, 8], [2, 2, 4], [2, 2, 2, 2], [1, 2, 1, 2, 1]])
+    ors = [[4] * (w - 1) + [b for _ in range(w) for b in part(d, n)] for w in ways]
+    return [3] * (len(ors) - 1) + [b for o in ors for b in o]
+
+
+def barred(d, n):
+    """Several bars at once: alone, under possibly, or joined with another part."""
+    ways = 2 + d.below(3)
+    bars = d.pick([[2, 5], [6, 2]]) + [4] * (ways - 1) + [b for _ in range(ways) for b in d.pick([[], [3] + atom(d, n)]) + atom(d, n, 3)]
+    return d.pick([bars, [5] + bars, [3] + part(d, n) + bars, [3] + bars + part(d, n), [5, 3] + bars + part(d, n)])
+
+
+def empty(d, n):
+    """An operand with no structure beside one with rounds."""
+    never, pair = [1, d.below(n)] + word(8) + word(9), [3] + part(d, n) + part(d, n)
+    return d.pick([[3] + never + pair, [3] + pair + never, [2, 4, 2] + never + [2] + pair])
+
+
+def question(d, log):
+    """A question that the log takes in."""
+    n = len(log.initial)
+    while True:
+        q = d.pick([wide, wide, wide, barred, barred, empty, lambda d, n: formula(d, n, 5, 8)])(d, n)
+        try:
+            admit(log, [0x30] + q)
+        except Refused:
+            continue
+        return q
+
+
+def drawn(d, n, events, questions):
+    """A computation of n stations with messages between them, and questions."""
+    frames = [[0x10, n] + [b for _ in range(n) for b in word(d.below(8))]]
+    last = [[0] * n for _ in range(n)]
+    for _ in range(events):
+        s = d.below(n)
+        clock = list(last[s])
+        if d.below(2) == 0:
+            clock = list(join(clock, last[d.below(n)]))
+        clock[s] = last[s][s] + 1
+        last[s] = clock
+        frames.append([0x20, s] + word(d.below(8)) + clock)
+    log = read(b"".join(map(encode, frames)))
+    return b"".join(map(encode, frames + [[0x30] + question(d, log) for _ in range(questions)]))
+
+
+def logs(seed):
+    d = Draw(seed)
+    yield ALL
+    yield ladder(3, 24)
+    yield ladder(2, 40)
+    yield ladder(8, 127)
+    for n, events in ((1, 0), (2, 7), (3, 15), (4, 16), (5, 12), (2, 127), (4, 60), (6, 100), (7, 120), (8, 40), (8, 127), (8, 127)):
+        yield drawn(d, n, events, 16)
+    yield b"\n"
+
+
+def main():
+    folder = pathlib.Path(sys.argv[1])
+    made = list(logs(int(sys.argv[2]) if len(sys.argv) > 2 else SEED))
+    (folder / "stdin").write_bytes(b"".join(log + b".\n" for log in made))
+    (folder / "stdout").write_text("".join(printed(log) + ".\n" for log in made))
+
+
+if __name__ == "__main__":
+    main()
