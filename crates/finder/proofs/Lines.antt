@@ -30,7 +30,7 @@ length-items (b ∷ s) = by (eqb b 0x0A) (length-items s)
 
 -- A refusal from line n on.
 
-refused-item : (n : ℕ) (r : Reading) (l : List Item) (k i : ℕ) → 1 ≤ n → readItems limits n r l ≡ refused k i → i ≤ n + length l
+pub refused-item : (n : ℕ) (r : Reading) (l : List Item) (k i : ℕ) → 1 ≤ n → readItems limits n r l ≡ refused k i → i ≤ n + length l
 unfolding readItems finish proceed
 refused-item n r [] k i h e = by (begun r) e
   where

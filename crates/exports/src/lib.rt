@@ -1,0 +1,98 @@
+// The four operations for C and Rust: numbers and byte slices in, a reply packed in one number out.
+use model::HoldsAnswer;
+use model::LineAnswer;
+use model::Log;
+use model::ReadAnswer;
+use model::Refusal;
+use model::WriteAnswer;
+ghost use mathlib.Core.Path.{_≡_};
+ghost use Prim.Native.Nat.{_≤_, _<_};
+ghost use mathlib.Core.List.{[], _∷_};
+ghost use lib.ListN.{length};
+ghost use Rattle.model.specs.Reply.{gives, refusal};
+ghost use Rattle.model.specs.Operations.{readOp, writeOp, answerOp, holdsOp, Kept};
+ghost use Rattle.exports.specs.Packed.{packed};
+
+// One in the highest byte.
+const HIGHEST: u64 = 0x0100_0000_0000_0000;
+
+// A refusal: its number in the highest byte, its line below.
+fn packed_refusal(r: Refusal) -> u64
+    requires { ⌜ r .line ≤ 8193 ⌝ }
+    ensures { λ v. ⌜ v ≡ packed (refusal r) ⌝ }
+{
+    let f = r.fault;
+    f.number() as u64 * HIGHEST + r.line as u64
+}
+
+// Read's four values, the first in the lowest byte.
+fn packed_counts(l: Log) -> u64
+    requires { ⌜ (l .stations < 256) × (l .events < 256) × (l .questions < 256) × (l .list ≤ 8192) ⌝ }
+    ensures { λ v. ⌜ v ≡ packed (gives (l .stations ∷ l .events ∷ l .questions ∷ l .list ∷ [])) ⌝ }
+{
+    l.stations as u64 + 256 * (l.events as u64 + 256 * (l.questions as u64 + 256 * (l.list as u64)))
+}
+
+// Read: the counts of stations, events and questions and the list's length, or a refusal.
+#[no_mangle]
+pub extern "C" fn moment_read(log: &[u8], out: &mut [u8]) -> u64
+    ensures { λ v. ⌜ v ≡ packed (readOp (now (log .entry)) (now (out .entry)) .reply) ⌝ }
+    ensures { λ _. ⌜ now (out .exit) ≡ readOp (now (log .entry)) (now (out .entry)) .output ⌝ }
+{
+    match log::read(log, out) {
+        ReadAnswer::Accepted(l) => packed_counts(l),
+        ReadAnswer::Refused(r) => packed_refusal(r),
+    }
+}
+
+// Write: the log's length, or a refusal.
+#[no_mangle]
+pub extern "C" fn moment_write(list: &[u8], out: &mut [u8]) -> u64
+    ensures { λ v. ⌜ v ≡ packed (writeOp (now (list .entry)) (now (out .entry)) .reply) ⌝ }
+    ensures { λ _. ⌜ now (out .exit) ≡ writeOp (now (list .entry)) (now (out .entry)) .output ⌝ }
+{
+    match log::write(list, out) {
+        WriteAnswer::Written(n) => n as u64,
+        WriteAnswer::Refused(r) => packed_refusal(r),
+    }
+}
+
+// Answer: the line's length, or a refusal.
+#[no_mangle]
+pub extern "C" fn moment_answer(
+    log: &[u8],
+    question: usize,
+    ws: &mut [u8],
+    bs: &mut [u8],
+    out: &mut [u8],
+) -> u64
+    ensures { λ v. ⌜ v ≡ packed (answerOp (now (log .entry)) question (length (now (ws .entry))) (length (now (bs .entry))) (now (out .entry)) .reply) ⌝ }
+    ensures { λ _. ⌜ now (out .exit) ≡ answerOp (now (log .entry)) question (length (now (ws .entry))) (length (now (bs .entry))) (now (out .entry)) .output ⌝ }
+    ensures { λ _. ⌜ Kept (answerOp (now (log .entry)) question (length (now (ws .entry))) (length (now (bs .entry))) (now (out .entry)) .reply) (now (ws .entry)) (now (ws .exit)) ⌝ }
+    ensures { λ _. ⌜ Kept (answerOp (now (log .entry)) question (length (now (ws .entry))) (length (now (bs .entry))) (now (out .entry)) .reply) (now (bs .entry)) (now (bs .exit)) ⌝ }
+{
+    match finder::answer(log, question, ws, bs, out) {
+        LineAnswer::Written(n) => n as u64,
+        LineAnswer::Refused(r) => packed_refusal(r),
+    }
+}
+
+// Holds: 1 for yes, 0 for no, or a refusal.
+#[no_mangle]
+pub extern "C" fn moment_holds(
+    log: &[u8],
+    question: usize,
+    cut: &[u8],
+    ws: &mut [u8],
+    bs: &mut [u8],
+) -> u64
+    ensures { λ v. ⌜ v ≡ packed (holdsOp (now (log .entry)) question (now (cut .entry)) (length (now (ws .entry))) (length (now (bs .entry)))) ⌝ }
+    ensures { λ _. ⌜ Kept (holdsOp (now (log .entry)) question (now (cut .entry)) (length (now (ws .entry))) (length (now (bs .entry)))) (now (ws .entry)) (now (ws .exit)) ⌝ }
+    ensures { λ _. ⌜ Kept (holdsOp (now (log .entry)) question (now (cut .entry)) (length (now (ws .entry))) (length (now (bs .entry)))) (now (bs .entry)) (now (bs .exit)) ⌝ }
+{
+    match finder::holds(log, question, cut, ws, bs) {
+        HoldsAnswer::Yes => 1,
+        HoldsAnswer::No => 0,
+        HoldsAnswer::Refused(r) => packed_refusal(r),
+    }
+}
