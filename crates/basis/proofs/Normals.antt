@@ -1,42 +1,23 @@
--- The two rules as one: normal forms, sizes, bases and rounds under a sign.
+-- The two rules as one: sizes, bases and rounds under a sign.
 use mathlib.Core.Path.{_≡_, refl}
-use Prim.Native.Nat.{ℕ, suc, _+_, _*_, _≤_}
+use Prim.Native.Nat.{suc, _+_, _*_, _≤_}
 use native.Mathlib.Omega.{arith}
 use native.Mathlib.Nat.{mul-le-mul}
 use mathlib.Core.Bool.{Bool, true, false}
-use Rattle.model.specs.Formula.{Formula, sound, tokens, signs}
-use Rattle.model.specs.Formula.Formula.{not, and}
+use Rattle.model.specs.Formula.{Formula, tokens, signs}
+use Rattle.model.specs.Formula.Formula.{and}
 use Rattle.model.specs.Computation.{Computation, eventCount}
-use Rattle.model.specs.Rules.{Normal, asTrue, asFalse}
+use Rattle.model.specs.Rules.{Normal}
 use Rattle.model.specs.Size.{width, held, narrow}
 use Rattle.model.specs.Basis.{basis}
 use Rattle.model.specs.Rounds.{rounds}
-use Rattle.lattice.proofs.Tests.{and-true}
 use Rattle.lattice.proofs.Size.{narrow-both, narrow-either, narrow-possible, narrow-impossible, width-pos}
 use Rattle.lattice.proofs.Held.{held-both, held-either, held-possible, held-impossible}
 use Rattle.lattice.proofs.Weights.{signsOf, weight-true, weight-false}
 use Rattle.lattice.proofs.Rounds.{rounds-normal, square}
-use Rattle.basis.specs.Signed.{normal, two, modal, flip, under, joinedForm, joinedBasis, joinedRounds, liftedForm, liftedBasis}
+use Rattle.lattice.specs.Signed.{normal, joinedForm, liftedForm}
+use Rattle.basis.specs.Signed.{joinedBasis, joinedRounds, liftedBasis}
 use Rattle.basis.proofs.Tokens.{signs-tokens}
-
-pub normal-not : (s : Bool) (f : Formula) → normal s (not f) ≡ normal (flip s) f
-unfolding asTrue asFalse
-normal-not true f = refl
-normal-not false f = refl
-
-pub normal-two : (s b : Bool) (f g : Formula) → normal s (two b f g) ≡ joinedForm (under s b) (normal s f) (normal s g)
-unfolding asTrue asFalse
-normal-two true true f g = refl
-normal-two true false f g = refl
-normal-two false true f g = refl
-normal-two false false f g = refl
-
-pub normal-modal : (s b : Bool) (f : Formula) → normal s (modal b f) ≡ liftedForm (under s b) (normal b f)
-unfolding asTrue asFalse
-normal-modal true true f = refl
-normal-modal true false f = refl
-normal-modal false true f = refl
-normal-modal false false f = refl
 
 -- SIZES
 
@@ -55,20 +36,6 @@ narrow-lifted false p h = narrow-impossible p h
 pub held-lifted : (c : Bool) (p : Normal) → (held p ≤ held (liftedForm c p)) × (width p ≤ held (liftedForm c p)) × (1 ≤ held (liftedForm c p))
 held-lifted true p = let r = held-possible p in (r .0, omega (arith, r .1), omega (arith, r .1, width-pos p))
 held-lifted false p = let r = held-impossible p in (r .0, omega (arith, r .1), omega (arith, r .1, width-pos p))
-
-pub sound-two : (n : ℕ) (b : Bool) (f g : Formula) → sound n (two b f g) ≡ true → (sound n f ≡ true) × (sound n g ≡ true)
-unfolding sound
-sound-two n true f g h = and-true (sound n f) (sound n g) .0 h
-sound-two n false f g h = and-true (sound n f) (sound n g) .0 h
-
-pub sound-modal : (n : ℕ) (b : Bool) (f : Formula) → sound n (modal b f) ≡ true → sound n f ≡ true
-unfolding sound
-sound-modal n true f h = h
-sound-modal n false f h = h
-
-pub sound-not : (n : ℕ) (f : Formula) → sound n (not f) ≡ true → sound n f ≡ true
-unfolding sound
-sound-not n f h = h
 
 -- BASES AND ROUNDS
 

@@ -2,16 +2,15 @@
 use mathlib.Core.Path.{_≡_, refl, sym, ap, ap₂, subst, _∙_}
 use Prim.Native.Nat.{ℕ, suc, _+_, _*_, _≤_, _<_}
 use native.Mathlib.Omega.{arith}
-use native.Mathlib.Numerals.{add-one}
 use native.Mathlib.Nat.{div-add-mod', mul-le-mul-right, zero-mul, one-mul}
 use mathlib.Core.List.{List, [], _++_}
-use mathlib.Core.Bool.{Bool, true, false, _&&_}
+use mathlib.Core.Bool.{Bool, true, false, _&&_, Bool·beq, not as flip}
 use lib.Dec.{ltb, leb}
 use lib.ListN.{length, getD, take, drop, replicate, length-drop, length-append}
 use lib.Seq.{getD-take}
 use borrow.Author.Tests.{ltb-true}
 use Rattle.model.specs.Lists.{total}
-use Rattle.model.specs.Formula.{Formula, prefix, sound, tokens}
+use Rattle.model.specs.Formula.{Formula, prefix, sound, weigh, tokens}
 use Rattle.model.specs.Formula.Formula.{inRange, not}
 use Rattle.model.specs.Computation.{Computation, full}
 use Rattle.model.specs.Rules.{Normal, asTrue, asFalse, passes}
@@ -22,16 +21,20 @@ use Rattle.model.specs.Rounds.{rounds}
 use Rattle.structure.specs.Layout.{standing, barCells}
 use Rattle.structure.specs.Stations.{Stations}
 use Rattle.structure.specs.Laid.{Laid}
+use Rattle.lattice.proofs.Signed as signed
+use Rattle.lattice.specs.Signed.{normal, two, joinedForm, liftedForm}
 use Rattle.lattice.proofs.Tests.{and-true}
-use Rattle.lattice.proofs.Size.{basis-width, narrow-to}
+use Rattle.lattice.proofs.Size.{basis-width, narrow-to, width-pos}
 use Rattle.lattice.proofs.Held.{width-held}
 use Rattle.steps.specs.Rows.{rowAt}
 use Rattle.steps.proofs.Parts.{row-zero}
 use Rattle.steps.proofs.Built.{first-row, start-there}
 use Rattle.steps.proofs.Atoms.{starts-fit}
+use Rattle.structure.proofs.Places.{cells-are}
 use Rattle.structure.proofs.Standing.{standing-add, length-standing}
+use Rattle.structure.proofs.FromLaid.{laid-stations}
 use Rattle.modal.specs.Post.{Least, Possible, Impossible}
-use Rattle.basis.specs.Signed.{normal, two, twoToken, modalToken, flip, under, joinedForm, liftedForm, liftedBasis}
+use Rattle.basis.specs.Signed.{twoToken, modalToken, liftedBasis}
 use Rattle.basis.specs.Contract.{Ready, Made, Combined, Lifted}
 use Rattle.pairs.specs.Post.{Paired}
 use Rattle.basis.proofs.Tokens as tokens
@@ -56,7 +59,7 @@ combined-all n e l r u v counts starts w b c sum t f g h least = rw (f, g) (reco
   joined-rounds = 0;
   joined = record {
     stands = λ K offs values laid.
-        let x : suc (total (full K)) * n ≡ (e + 1) * n = ap (λ (y : ℕ). suc y * n) (laid .counted) ∙ ap (λ (y : ℕ). y * n) (sym (add-one e)) in
+        let x = cells-are n e (full K) (laid .counted) in
         standing-add n (full K) l r w b ∙ ap (λ (y : ℕ). standing n (full K) l w b ++ standing n (full K) r (drop (l * y) w) (drop (l * barCells n) b)) x;
     summed = λ K offs values laid. refl;
     least = least;
@@ -83,11 +86,7 @@ module _ (s : Bool) (n e : ℕ) (q counts offs starts values : List ℕ) (mw mb 
       (ap (λ (x : List ℕ). getD x 0 0) (row-zero n starts) ∙ getD-take n starts 0 0 (r .laid .some-station) ∙ f)
 
   pub stations-are : Stations n counts offs
-  stations-are = record {
-    some-station = r .laid .some-station;
-    few-stations = r .laid .few-stations;
-    offs-are = λ j h. r .laid .offs-are j h ∙ ap (λ (x : List ℕ). total (take j x)) (sym (r .laid .counts-are));
-  }
+  stations-are = laid-stations (r .laid)
 
   pub total-is : total (take n counts) ≡ e
   total-is = ap total (r .laid .counts-are) ∙ r .laid .counted
@@ -112,11 +111,17 @@ module _ (s : Bool) (n e : ℕ) (q counts offs starts values : List ℕ) (mw mb 
       let g : ltb (h .0) n && leb (h .1) (h .2) ≡ true = sym (ap (sound n) (h .3)) ∙ r .known in
       omega (arith, ltb-true (h .0) n (and-true (ltb (h .0) n) (leb (h .1) (h .2)) .0 g .0))
 
+  -- There is room for one structure, and for its bars.
+  one-fits : (c m : ℕ) → held (normal s (r .formula)) * c ≤ m → c ≤ m
+  one-fits c m h =
+      let o : 1 ≤ held (normal s (r .formula)) = omega (arith, width-held (normal s (r .formula)), width-pos (normal s (r .formula))) in
+      omega (arith, mul-le-mul-right c o, one-mul c)
+
   pub atom-cells : (e + 1) * n ≤ mw
-  atom-cells = omega (arith, mul-le-mul-right ((e + 1) * n) (let o : 1 ≤ held (normal s (r .formula)) = omega (arith, width-held (normal s (r .formula)), Rattle.lattice.proofs.Size.width-pos (normal s (r .formula))) in o), r .cells-fit, one-mul ((e + 1) * n))
+  atom-cells = one-fits ((e + 1) * n) mw (r .cells-fit)
 
   pub atom-bars : 16 * n ≤ mb
-  atom-bars = omega (arith, mul-le-mul-right (16 * n) (let o : 1 ≤ held (normal s (r .formula)) = omega (arith, width-held (normal s (r .formula)), Rattle.lattice.proofs.Size.width-pos (normal s (r .formula))) in o), r .bars-fit, one-mul (16 * n))
+  atom-bars = one-fits (16 * n) mb (r .bars-fit)
 
   -- OPERANDS
 
@@ -125,18 +130,19 @@ module _ (s : Bool) (n e : ℕ) (q counts offs starts values : List ℕ) (mw mb 
     shorter = omega (arith, ap length d, length-drop 1 q, question-some)
 
     pub ready-not : getD q 0 0 ≡ 2 → Ready (flip s) n e q′ counts offs starts values mw mb
+    unfolding sound weigh
     ready-not k =
         let h = tokens.behind-not q (r .formula) (r .rest) (r .reads) k in
-        let m : normal s (r .formula) ≡ normal (flip s) (h .0) = ap (normal s) (h .1) ∙ normals.normal-not s (h .0) in
+        let m : normal s (r .formula) ≡ normal (flip s) (h .0) = ap (normal s) (h .1) ∙ signed.normal-not s (h .0) in
         record {
           computation = r .computation;
           laid = r .laid;
           formula = h .0;
           rest = r .rest;
           reads = d ∙ h .2;
-          known = normals.sound-not n (h .0) (sym (ap (sound n) (h .1)) ∙ r .known);
+          known = sym (ap (sound n) (h .1)) ∙ r .known;
           slim = sym (ap narrow m) ∙ r .slim;
-          short = omega (arith, r .short, ap tokens (h .1), tokens.tokens-not (h .0));
+          short = omega (arith, r .short, ap tokens (h .1));
           cells-fit = subst (λ (p : Normal). held p * ((e + 1) * n) ≤ mw) m (r .cells-fit);
           bars-fit = subst (λ (p : Normal). held p * (16 * n) ≤ mb) m (r .bars-fit);
         }
@@ -144,19 +150,19 @@ module _ (s : Bool) (n e : ℕ) (q counts offs starts values : List ℕ) (mw mb 
     pub ready-modal : (b : Bool) → getD q 0 0 ≡ modalToken b → Ready b n e q′ counts offs starts values mw mb
     ready-modal b k =
         let h = tokens.behind-modal q (r .formula) (r .rest) (r .reads) b k in
-        let m : normal s (r .formula) ≡ liftedForm (under s b) (normal b (h .0)) = ap (normal s) (h .1) ∙ normals.normal-modal s b (h .0) in
-        let g = normals.held-lifted (under s b) (normal b (h .0)) in
-        let x : held (liftedForm (under s b) (normal b (h .0))) * ((e + 1) * n) ≤ mw = subst (λ (p : Normal). held p * ((e + 1) * n) ≤ mw) m (r .cells-fit) in
-        let y : held (liftedForm (under s b) (normal b (h .0))) * (16 * n) ≤ mb = subst (λ (p : Normal). held p * (16 * n) ≤ mb) m (r .bars-fit) in
+        let m : normal s (r .formula) ≡ liftedForm (Bool·beq b s) (normal b (h .0)) = ap (normal s) (h .1) ∙ signed.normal-modal s b (h .0) in
+        let g = normals.held-lifted (Bool·beq b s) (normal b (h .0)) in
+        let x : held (liftedForm (Bool·beq b s) (normal b (h .0))) * ((e + 1) * n) ≤ mw = subst (λ (p : Normal). held p * ((e + 1) * n) ≤ mw) m (r .cells-fit) in
+        let y : held (liftedForm (Bool·beq b s) (normal b (h .0))) * (16 * n) ≤ mb = subst (λ (p : Normal). held p * (16 * n) ≤ mb) m (r .bars-fit) in
         record {
           computation = r .computation;
           laid = r .laid;
           formula = h .0;
           rest = r .rest;
           reads = d ∙ h .2;
-          known = normals.sound-modal n b (h .0) (sym (ap (sound n) (h .1)) ∙ r .known);
-          slim = normals.narrow-lifted (under s b) (normal b (h .0)) (sym (ap narrow m) ∙ r .slim) .1;
-          short = omega (arith, r .short, ap tokens (h .1), tokens.tokens-modal b (h .0));
+          known = sym (ap (sound n) (h .1) ∙ signed.sound-modal n b (h .0)) ∙ r .known;
+          slim = normals.narrow-lifted (Bool·beq b s) (normal b (h .0)) (sym (ap narrow m) ∙ r .slim) .1;
+          short = omega (arith, r .short, ap tokens (h .1), signed.weigh-modal 1 1 1 b (h .0));
           cells-fit = omega (arith, mul-le-mul-right ((e + 1) * n) (g .0), x);
           bars-fit = omega (arith, mul-le-mul-right (16 * n) (g .0), y);
         }
@@ -164,19 +170,19 @@ module _ (s : Bool) (n e : ℕ) (q counts offs starts values : List ℕ) (mw mb 
     pub ready-left : (b : Bool) → getD q 0 0 ≡ twoToken b → Ready s n e q′ counts offs starts values mw mb
     ready-left b k =
         let h = tokens.behind-two q (r .formula) (r .rest) (r .reads) b k in
-        let m : normal s (r .formula) ≡ joinedForm (under s b) (normal s (h .0)) (normal s (h .1)) = ap (normal s) (h .2) ∙ normals.normal-two s b (h .0) (h .1) in
-        let g = normals.held-joined (under s b) (normal s (h .0)) (normal s (h .1)) in
-        let x : held (joinedForm (under s b) (normal s (h .0)) (normal s (h .1))) * ((e + 1) * n) ≤ mw = subst (λ (p : Normal). held p * ((e + 1) * n) ≤ mw) m (r .cells-fit) in
-        let y : held (joinedForm (under s b) (normal s (h .0)) (normal s (h .1))) * (16 * n) ≤ mb = subst (λ (p : Normal). held p * (16 * n) ≤ mb) m (r .bars-fit) in
+        let m : normal s (r .formula) ≡ joinedForm (Bool·beq b s) (normal s (h .0)) (normal s (h .1)) = ap (normal s) (h .2) ∙ signed.normal-two s b (h .0) (h .1) in
+        let g = normals.held-joined (Bool·beq b s) (normal s (h .0)) (normal s (h .1)) in
+        let x : held (joinedForm (Bool·beq b s) (normal s (h .0)) (normal s (h .1))) * ((e + 1) * n) ≤ mw = subst (λ (p : Normal). held p * ((e + 1) * n) ≤ mw) m (r .cells-fit) in
+        let y : held (joinedForm (Bool·beq b s) (normal s (h .0)) (normal s (h .1))) * (16 * n) ≤ mb = subst (λ (p : Normal). held p * (16 * n) ≤ mb) m (r .bars-fit) in
         record {
           computation = r .computation;
           laid = r .laid;
           formula = h .0;
           rest = prefix (h .1) ++ r .rest;
           reads = d ∙ h .3;
-          known = normals.sound-two n b (h .0) (h .1) (sym (ap (sound n) (h .2)) ∙ r .known) .0;
-          slim = normals.narrow-joined (under s b) (normal s (h .0)) (normal s (h .1)) (sym (ap narrow m) ∙ r .slim) .0;
-          short = omega (arith, r .short, ap tokens (h .2), tokens.tokens-two b (h .0) (h .1));
+          known = and-true (sound n (h .0)) (sound n (h .1)) .0 (sym (ap (sound n) (h .2) ∙ signed.sound-two n b (h .0) (h .1)) ∙ r .known) .0;
+          slim = normals.narrow-joined (Bool·beq b s) (normal s (h .0)) (normal s (h .1)) (sym (ap narrow m) ∙ r .slim) .0;
+          short = omega (arith, r .short, ap tokens (h .2), signed.weigh-two 1 1 1 b (h .0) (h .1));
           cells-fit = omega (arith, mul-le-mul-right ((e + 1) * n) (g .0), x);
           bars-fit = omega (arith, mul-le-mul-right (16 * n) (g .0), y);
         }
@@ -242,13 +248,13 @@ module _ (s : Bool) (n e : ℕ) (q counts offs starts values : List ℕ) where
     unfolding prefix
     made-not c u v c₂ u₂ v₂ w b k ec eu ev m = rw (ec, eu, ev) (record {
       passed = λ f rest r. let h = tokens.behind-not q f rest r k in rw (h .1) (omega (arith, m .passed (h .0) rest (d ∙ h .2)));
-      stands = λ K f rest laid r. let h = tokens.behind-not q f rest r k in m .stands K (h .0) rest laid (d ∙ h .2) ∙ ap (basis K) (sym (ap (normal s) (h .1) ∙ normals.normal-not s (h .0)));
-      counted = λ K f rest laid r. let h = tokens.behind-not q f rest r k in m .counted K (h .0) rest laid (d ∙ h .2) ∙ ap (rounds K) (sym (ap (normal s) (h .1) ∙ normals.normal-not s (h .0)));
+      stands = λ K f rest laid r. let h = tokens.behind-not q f rest r k in m .stands K (h .0) rest laid (d ∙ h .2) ∙ ap (basis K) (sym (ap (normal s) (h .1) ∙ signed.normal-not s (h .0)));
+      counted = λ K f rest laid r. let h = tokens.behind-not q f rest r k in m .counted K (h .0) rest laid (d ∙ h .2) ∙ ap (rounds K) (sym (ap (normal s) (h .1) ∙ signed.normal-not s (h .0)));
       least = m .least;
     })
 
     pub made-modal : (t : Bool) (c u v c₂ u₂ v₂ : ℕ) (w b w₂ b₂ : List ℕ) → getD q 0 0 ≡ modalToken t → u₂ ≡ u + 1 → v₂ ≡ v
-        → Made t n e q′ counts offs starts values c u v w b → Lifted (under s t) n e c starts w w₂ b b₂ c₂ → Made s n e q counts offs starts values c₂ u₂ v₂ w₂ b₂
+        → Made t n e q′ counts offs starts values c u v w b → Lifted (Bool·beq t s) n e c starts w w₂ b b₂ c₂ → Made s n e q counts offs starts values c₂ u₂ v₂ w₂ b₂
     made-modal t c u v c₂ u₂ v₂ w b w₂ b₂ k eu ev m l = rw (eu, ev) (record {
       passed = λ f rest r.
           let h = tokens.behind-modal q f rest r t k in
@@ -256,11 +262,11 @@ module _ (s : Bool) (n e : ℕ) (q counts offs starts values : List ℕ) where
           omega (arith, m .passed (h .0) rest (d ∙ h .2));
       stands = λ K f rest laid r.
           let h = tokens.behind-modal q f rest r t k in
-          l .stands K counts offs values laid ∙ ap (liftedBasis (under s t) K) (m .stands K (h .0) rest laid (d ∙ h .2)) ∙ sym (normals.basis-lifted (under s t) K (normal t (h .0)))
-          ∙ ap (basis K) (sym (ap (normal s) (h .1) ∙ normals.normal-modal s t (h .0)));
+          l .stands K counts offs values laid ∙ ap (liftedBasis (Bool·beq t s) K) (m .stands K (h .0) rest laid (d ∙ h .2)) ∙ sym (normals.basis-lifted (Bool·beq t s) K (normal t (h .0)))
+          ∙ ap (basis K) (sym (ap (normal s) (h .1) ∙ signed.normal-modal s t (h .0)));
       counted = λ K f rest laid r.
           let h = tokens.behind-modal q f rest r t k in
-          m .counted K (h .0) rest laid (d ∙ h .2) ∙ sym (normals.rounds-lifted (under s t) K (normal t (h .0))) ∙ ap (rounds K) (sym (ap (normal s) (h .1) ∙ normals.normal-modal s t (h .0)));
+          m .counted K (h .0) rest laid (d ∙ h .2) ∙ sym (normals.rounds-lifted (Bool·beq t s) K (normal t (h .0))) ∙ ap (rounds K) (sym (ap (normal s) (h .1) ∙ signed.normal-modal s t (h .0)));
       least = l .least;
     })
 

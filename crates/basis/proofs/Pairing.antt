@@ -2,10 +2,9 @@
 use mathlib.Core.Path.{_≡_, refl, sym, ap, ap₂, _∙_}
 use Prim.Native.Nat.{ℕ, zero, suc, _+_, _-_, _*_, _≤_, _<_}
 use native.Mathlib.Omega.{arith}
-use native.Mathlib.Numerals.{add-one}
 use native.Mathlib.Nat.{mul-le-mul, mul-le-mul-right, suc-mul, zero-mul, add-mul, not-suc-le-zero, le-of-suc-le-suc}
 use mathlib.Core.List.{List, [], _++_}
-use mathlib.Core.Bool.{Bool, true, false}
+use mathlib.Core.Bool.{Bool, true, false, Bool·beq}
 use lib.Dec.{ltb}
 use lib.ListN.{length, getD, take, drop, length-drop, length-append, List·getD-append}
 use lib.Seq.{take-at, drop-at, length-take-le, getD-take, getD-append-add, drop-drop}
@@ -21,12 +20,16 @@ use Rattle.model.specs.Basis.{basis}
 use Rattle.model.specs.Rounds.{rounds}
 use Rattle.structure.specs.Layout.{structureAt, standing, barsAt, cells, barCells}
 use Rattle.structure.specs.Laid.{Laid}
+use Rattle.lattice.proofs.Signed as signed
+use Rattle.lattice.specs.Signed.{normal, two, joinedForm}
+use Rattle.lattice.proofs.Tests.{and-true}
 use Rattle.lattice.proofs.Size.{basis-bars-at, narrow-both}
 use Rattle.lattice.proofs.Held.{held-both}
+use Rattle.structure.proofs.Places.{one-more, cells-are}
 use Rattle.structure.proofs.Standing.{standing-same, length-standing}
 use Rattle.modal.specs.Post.{Least}
 use Rattle.modal.proofs.Laws.{put-end, part-room}
-use Rattle.basis.specs.Signed.{normal, two, twoToken, under, joinedForm, joinedBasis, joinedRounds}
+use Rattle.basis.specs.Signed.{twoToken, joinedBasis, joinedRounds}
 use Rattle.basis.specs.Contract.{Ready, Made, Combined}
 use Rattle.pairs.specs.Post.{PairsReady}
 use Rattle.basis.proofs.Tokens as tokens
@@ -76,20 +79,20 @@ module _ (s b : Bool) (n e : ℕ) (q q′ counts offs starts values : List ℕ) 
   unfolding f₁ f₂
   reads-two = tokens.behind-two q (r .formula) (r .rest) (r .reads) b k .3
 
-  form : normal s (r .formula) ≡ joinedForm (under s b) (normal s f₁) (normal s f₂)
-  form = ap (normal s) is-two ∙ normals.normal-two s b f₁ f₂
+  form : normal s (r .formula) ≡ joinedForm (Bool·beq b s) (normal s f₁) (normal s f₂)
+  form = ap (normal s) is-two ∙ signed.normal-two s b f₁ f₂
 
   slims : (narrow (normal s f₁) ≡ true) × (narrow (normal s f₂) ≡ true)
-  slims = normals.narrow-joined (under s b) (normal s f₁) (normal s f₂) (sym (ap narrow form) ∙ r .slim)
+  slims = normals.narrow-joined (Bool·beq b s) (normal s f₁) (normal s f₂) (sym (ap narrow form) ∙ r .slim)
 
   left-done : Done c u v (normal s f₁) (length q′)
   left-done =
       done-at s n e q′ counts offs starts values c u v w bs m (r .computation) (r .laid) f₁ (prefix f₂ ++ r .rest) (d ∙ reads-two) (slims .0)
-      (omega (arith, r .short, ap tokens is-two, tokens.tokens-two b f₁ f₂))
+      (omega (arith, r .short, ap tokens is-two, signed.weigh-two 1 1 1 b f₁ f₂))
 
   sum-held : c + held (normal s f₂) ≤ held (normal s (r .formula))
   sum-held =
-      omega (arith, left-done .wide, normals.held-joined (under s b) (normal s f₁) (normal s f₂) .1, ap held form)
+      omega (arith, left-done .wide, normals.held-joined (Bool·beq b s) (normal s f₁) (normal s f₂) .1, ap held form)
 
   cells-two : c * size + held (normal s f₂) * size ≤ length w
   cells-two = omega (arith, mul-le-mul-right size sum-held, add-mul c (held (normal s f₂)) size, r .cells-fit, lw)
@@ -122,9 +125,9 @@ module _ (s b : Bool) (n e : ℕ) (q q′ counts offs starts values : List ℕ) 
       formula = f₂;
       rest = r .rest;
       reads = d₂ ∙ tokens.second q u (prefix f₁) (prefix f₂ ++ r .rest) reads-two used-is;
-      known = normals.sound-two n b f₁ f₂ (sym (ap (sound n) is-two) ∙ r .known) .1;
+      known = and-true (sound n f₁) (sound n f₂) .0 (sym (ap (sound n) is-two ∙ signed.sound-two n b f₁ f₂) ∙ r .known) .1;
       slim = slims .1;
-      short = omega (arith, r .short, ap tokens is-two, tokens.tokens-two b f₁ f₂);
+      short = omega (arith, r .short, ap tokens is-two, signed.weigh-two 1 1 1 b f₁ f₂);
       cells-fit = part-room (c * size) (held (normal s f₂) * size) w cells-two;
       bars-fit = part-room (c * slot) (held (normal s f₂) * slot) bs bars-two;
     }
@@ -140,7 +143,7 @@ module _ (s b : Bool) (n e : ℕ) (q q′ counts offs starts values : List ℕ) 
       right-done : Done c₂ u₂ v₂ (normal s f₂) (length q₂)
       right-done =
           done-at s n e q₂ counts offs starts values c₂ u₂ v₂ p pb m₂ (r .computation) (r .laid) f₂ (r .rest) (d₂ ∙ tokens.second q u (prefix f₁) (prefix f₂ ++ r .rest) reads-two used-is) (slims .1)
-          (omega (arith, r .short, ap tokens is-two, tokens.tokens-two b f₁ f₂))
+          (omega (arith, r .short, ap tokens is-two, signed.weigh-two 1 1 1 b f₁ f₂))
 
       pub right-few : (c₂ ≤ 16) × (u₂ ≤ 192) × (v₂ ≤ 16777216)
       right-few = (right-done .few, right-done .short, right-done .small)
@@ -159,7 +162,7 @@ module _ (s b : Bool) (n e : ℕ) (q q′ counts offs starts values : List ℕ) 
 
       module _ (K : Computation) (counts₂ offs₂ values₂ : List ℕ) (laid : Laid K n e counts₂ offs₂ starts values₂) where
         cells-is : suc (total (full K)) * n ≡ size
-        cells-is = ap (λ (y : ℕ). suc y * n) (laid .counted) ∙ ap (λ (y : ℕ). y * n) (sym (add-one e))
+        cells-is = cells-are n e (full K) (laid .counted)
 
         left-stands : standing n (full K) c w₃ b₃ ≡ standing n (full K) c w bs
         left-stands =
@@ -175,7 +178,7 @@ module _ (s b : Bool) (n e : ℕ) (q q′ counts offs starts values : List ℕ) 
       least-both i h f = go (ltb i c) refl
         where
           z : 0 < size
-          z = omega (arith, ap (λ (x : ℕ). x * n) (add-one e) ∙ suc-mul e n, r .laid .some-station)
+          z = omega (arith, one-more e n, r .laid .some-station)
 
           go : (t : Bool) → ltb i c ≡ t → ⊥
           go true g =
@@ -189,7 +192,7 @@ module _ (s b : Bool) (n e : ℕ) (q q′ counts offs starts values : List ℕ) 
               m₂ .least (i - c) (omega (arith, ltb-false i c g))
               (sym (getD-append-add (take (c * size) w) p ((i - c) * size) 0) ∙ ap₂ (λ (x : List ℕ) (y : ℕ). getD x y 0) (sym w-is) (sym o) ∙ f)
 
-      module _ (t : Bool) (flag : t ≡ under s b) where
+      module _ (t : Bool) (flag : t ≡ Bool·beq b s) where
         pub pairs-ready : t ≡ true → PairsReady n e c c₂ w₃ b₃
         unfolding width
         pairs-ready g =
@@ -246,18 +249,18 @@ module _ (s b : Bool) (n e : ℕ) (q q′ counts offs starts values : List ℕ) 
               ∙ ap₂ (joinedBasis t K) (left-stands K counts offs values laid ∙ m .stands K (h .0) (prefix (h .1) ++ rest) laid (d ∙ h .3))
               (right-stands K counts offs values laid ∙ m₂ .stands K (h .1) rest laid (d₂ ∙ tokens.second q u (prefix (h .0)) (prefix (h .1) ++ rest) (h .3) x))
               ∙ ap (λ (g : Bool). joinedBasis g K (basis K (normal s (h .0))) (basis K (normal s (h .1)))) flag
-              ∙ sym (normals.basis-joined (under s b) K (normal s (h .0)) (normal s (h .1))) ∙ ap (basis K) (sym (ap (normal s) (h .2) ∙ normals.normal-two s b (h .0) (h .1)));
+              ∙ sym (normals.basis-joined (Bool·beq b s) K (normal s (h .0)) (normal s (h .1))) ∙ ap (basis K) (sym (ap (normal s) (h .2) ∙ signed.normal-two s b (h .0) (h .1)));
           counted = λ K f rest laid rd.
               let h = tokens.behind-two q f rest rd b k in
               let x : u ≡ length (prefix (h .0)) = m .passed (h .0) (prefix (h .1) ++ rest) (d ∙ h .3) in
               let rr : drop (u + 1) q ≡ prefix (h .1) ++ rest = tokens.second q u (prefix (h .0)) (prefix (h .1) ++ rest) (h .3) x in
-              let j : C .joined-rounds ≡ joinedRounds (under s b) K (basis K (normal s (h .0))) (basis K (normal s (h .1))) =
+              let j : C .joined-rounds ≡ joinedRounds (Bool·beq b s) K (basis K (normal s (h .0))) (basis K (normal s (h .1))) =
               C .joined .summed K offs values laid
               ∙ ap₂ (joinedRounds t K) (left-stands K counts offs values laid ∙ m .stands K (h .0) (prefix (h .1) ++ rest) laid (d ∙ h .3))
               (right-stands K counts offs values laid ∙ m₂ .stands K (h .1) rest laid (d₂ ∙ rr))
               ∙ ap (λ (g : Bool). joinedRounds g K (basis K (normal s (h .0))) (basis K (normal s (h .1)))) flag in
-              let z : rounds K (normal s f) ≡ rounds K (normal s (h .0)) + rounds K (normal s (h .1)) + joinedRounds (under s b) K (basis K (normal s (h .0))) (basis K (normal s (h .1))) =
-              ap (rounds K) (ap (normal s) (h .2) ∙ normals.normal-two s b (h .0) (h .1)) ∙ normals.rounds-joined (under s b) K (normal s (h .0)) (normal s (h .1)) in
+              let z : rounds K (normal s f) ≡ rounds K (normal s (h .0)) + rounds K (normal s (h .1)) + joinedRounds (Bool·beq b s) K (basis K (normal s (h .0))) (basis K (normal s (h .1))) =
+              ap (rounds K) (ap (normal s) (h .2) ∙ signed.normal-two s b (h .0) (h .1)) ∙ normals.rounds-joined (Bool·beq b s) K (normal s (h .0)) (normal s (h .1)) in
               omega (arith, C .summed, m .counted K (h .0) (prefix (h .1) ++ rest) laid (d ∙ h .3), m₂ .counted K (h .1) rest laid (d₂ ∙ rr));
           least = C .joined .least;
         }

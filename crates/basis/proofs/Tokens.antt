@@ -1,16 +1,16 @@
 -- The formula at the front of a question, by its token byte: what it is, and what stands behind the token.
-use mathlib.Core.Path.{_≡_, refl, sym, ap, _∙_}
+use mathlib.Core.Path.{_≡_, refl, sym, ap, subst, _∙_}
 use Prim.Native.Nat.{ℕ, zero, suc, _+_, _*_, _≤_, _<_}
 use native.Mathlib.Omega.{arith}
 use mathlib.Core.List.{List, _∷_, _++_, append-assoc}
-use mathlib.Core.Bool.{Bool, true, false}
+use mathlib.Core.Bool.{Bool, true, false, Bool·beq}
 use lib.ListN.{length, getD, drop, length-append}
 use lib.Seq.{drop-at, drop-drop}
 use lib.Dec.{eqb}
-use borrow.Author.Tests.{eqb-false}
 use Rattle.model.specs.Formula.{Formula, prefix, weigh, tokens, signs}
 use Rattle.model.specs.Formula.Formula.{inRange, not, and, or, possibly, always}
-use Rattle.basis.specs.Signed.{two, modal, twoToken, modalToken, under}
+use Rattle.lattice.specs.Signed.{two, modal}
+use Rattle.basis.specs.Signed.{twoToken, modalToken}
 
 -- The token byte.
 unfoldable pub token : Formula → ℕ
@@ -47,56 +47,36 @@ known-token q f rest e = rw (token-at f rest e) (token-range f)
 
 -- INVERSION
 
-clash : (a b : ℕ) → eqb a b ≡ false → {P : Type 0} → a ≡ b → P
-clash a b h e = absurd (eqb-false a b h e)
+-- What a formula is, by its token.
+abbrev Is : Formula → ℕ → Type 0
+Is f zero = Unit {0}
+Is f (suc zero) = (s : ℕ) × (lo : ℕ) × (hi : ℕ) × (f ≡ inRange s lo hi)
+Is f (suc (suc zero)) = (g : Formula) × (f ≡ not g)
+Is f (suc (suc (suc zero))) = (g : Formula) × (h : Formula) × (f ≡ and g h)
+Is f (suc (suc (suc (suc zero)))) = (g : Formula) × (h : Formula) × (f ≡ or g h)
+Is f (suc (suc (suc (suc (suc zero))))) = (g : Formula) × (f ≡ possibly g)
+Is f (suc (suc (suc (suc (suc (suc zero)))))) = (g : Formula) × (f ≡ always g)
+Is f (suc (suc (suc (suc (suc (suc (suc t))))))) = Unit {0}
 
-atom-of : (f : Formula) → token f ≡ 1 → (s : ℕ) × (lo : ℕ) × (hi : ℕ) × (f ≡ inRange s lo hi)
+is-token : (f : Formula) → Is f (token f)
 unfolding token
-atom-of (inRange s lo hi) e = (s, lo, hi, refl)
-atom-of (not f) e = clash 2 1 refl e
-atom-of (and f g) e = clash 3 1 refl e
-atom-of (or f g) e = clash 4 1 refl e
-atom-of (possibly f) e = clash 5 1 refl e
-atom-of (always f) e = clash 6 1 refl e
+is-token (inRange s lo hi) = (s, lo, hi, refl)
+is-token (not f) = (f, refl)
+is-token (and f g) = (f, g, refl)
+is-token (or f g) = (f, g, refl)
+is-token (possibly f) = (f, refl)
+is-token (always f) = (f, refl)
 
-not-of : (f : Formula) → token f ≡ 2 → (g : Formula) × (f ≡ not g)
-unfolding token
-not-of (inRange s lo hi) e = clash 1 2 refl e
-not-of (not f) e = (f, refl)
-not-of (and f g) e = clash 3 2 refl e
-not-of (or f g) e = clash 4 2 refl e
-not-of (possibly f) e = clash 5 2 refl e
-not-of (always f) e = clash 6 2 refl e
+token-is : (f : Formula) (t : ℕ) → token f ≡ t → Is f t
+token-is f t e = subst (Is f) e (is-token f)
 
 two-of : (b : Bool) (f : Formula) → token f ≡ twoToken b → (g : Formula) × (h : Formula) × (f ≡ two b g h)
-unfolding token
-two-of true (inRange s lo hi) e = clash 1 3 refl e
-two-of true (not f) e = clash 2 3 refl e
-two-of true (and f g) e = (f, g, refl)
-two-of true (or f g) e = clash 4 3 refl e
-two-of true (possibly f) e = clash 5 3 refl e
-two-of true (always f) e = clash 6 3 refl e
-two-of false (inRange s lo hi) e = clash 1 4 refl e
-two-of false (not f) e = clash 2 4 refl e
-two-of false (and f g) e = clash 3 4 refl e
-two-of false (or f g) e = (f, g, refl)
-two-of false (possibly f) e = clash 5 4 refl e
-two-of false (always f) e = clash 6 4 refl e
+two-of true f e = token-is f 3 e
+two-of false f e = token-is f 4 e
 
 modal-of : (b : Bool) (f : Formula) → token f ≡ modalToken b → (g : Formula) × (f ≡ modal b g)
-unfolding token
-modal-of true (inRange s lo hi) e = clash 1 5 refl e
-modal-of true (not f) e = clash 2 5 refl e
-modal-of true (and f g) e = clash 3 5 refl e
-modal-of true (or f g) e = clash 4 5 refl e
-modal-of true (possibly f) e = (f, refl)
-modal-of true (always f) e = clash 6 5 refl e
-modal-of false (inRange s lo hi) e = clash 1 6 refl e
-modal-of false (not f) e = clash 2 6 refl e
-modal-of false (and f g) e = clash 3 6 refl e
-modal-of false (or f g) e = clash 4 6 refl e
-modal-of false (possibly f) e = clash 5 6 refl e
-modal-of false (always f) e = (f, refl)
+modal-of true f e = token-is f 5 e
+modal-of false f e = token-is f 6 e
 
 -- WHAT STANDS BEHIND THE TOKEN
 
@@ -112,12 +92,12 @@ prefix-modal false f = refl
 
 module _ (q : List ℕ) (f : Formula) (rest : List ℕ) (e : q ≡ prefix f ++ rest) where
   pub at-atom : getD q 0 0 ≡ 1 → (s : ℕ) × (lo : ℕ) × (hi : ℕ) × (f ≡ inRange s lo hi)
-  at-atom k = atom-of f (sym (token-at f rest e) ∙ k)
+  at-atom k = token-is f 1 (sym (token-at f rest e) ∙ k)
 
   pub behind-not : getD q 0 0 ≡ 2 → (g : Formula) × (f ≡ not g) × (drop 1 q ≡ prefix g ++ rest)
   unfolding prefix
   behind-not k =
-      let h = not-of f (sym (token-at f rest e) ∙ k) in
+      let h = token-is f 2 (sym (token-at f rest e) ∙ k) in
       (h .0, h .1, ap (drop 1) e ∙ ap (λ (u : Formula). drop 1 (prefix u ++ rest)) (h .1))
 
   pub behind-modal : (b : Bool) → getD q 0 0 ≡ modalToken b → (g : Formula) × (f ≡ modal b g) × (drop 1 q ≡ prefix g ++ rest)
@@ -170,20 +150,6 @@ signs-tokens (or f g) = omega (arith, signs-tokens f, signs-tokens g)
 signs-tokens (possibly f) = omega (arith, signs-tokens f)
 signs-tokens (always f) = omega (arith, signs-tokens f)
 
-pub tokens-two : (b : Bool) (f g : Formula) → tokens (two b f g) ≡ 1 + tokens f + tokens g
-unfolding weigh
-tokens-two true f g = refl
-tokens-two false f g = refl
-
-pub tokens-modal : (b : Bool) (f : Formula) → tokens (modal b f) ≡ 1 + tokens f
-unfolding weigh
-tokens-modal true f = refl
-tokens-modal false f = refl
-
-pub tokens-not : (f : Formula) → tokens (not f) ≡ 1 + tokens f
-unfolding weigh
-tokens-not f = refl
-
 -- THE MATCH
 
 pub two-arm : (x : ℕ) → (x ≡ 0 → ⊥) → (x ≡ 1 → ⊥) → (x ≡ 2 → ⊥) → x < 5 → (b : Bool) × (x ≡ twoToken b)
@@ -198,10 +164,10 @@ pub unknown-arm : (x : ℕ) → (0 < x) × (x < 7) → (x ≡ 5 → ⊥) → (x 
 unknown-arm x h f g l = omega arith
 
 -- The flags that the code hands on.
-pub is-and : (x : ℕ) (b : Bool) → x ≡ twoToken b → eqb x 3 ≡ under true b
+pub is-and : (x : ℕ) (b : Bool) → x ≡ twoToken b → eqb x 3 ≡ Bool·beq b true
 is-and x true e = rw e
 is-and x false e = rw e
 
-pub is-or : (x : ℕ) (b : Bool) → x ≡ twoToken b → eqb x 4 ≡ under false b
+pub is-or : (x : ℕ) (b : Bool) → x ≡ twoToken b → eqb x 4 ≡ Bool·beq b false
 is-or x true e = rw e
 is-or x false e = rw e

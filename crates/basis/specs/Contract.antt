@@ -12,7 +12,8 @@ use Rattle.model.specs.Rounds.{rounds}
 use Rattle.structure.specs.Layout.{standing}
 use Rattle.structure.specs.Laid.{Laid}
 use Rattle.modal.specs.Post.{Least}
-use Rattle.basis.specs.Signed.{normal, joinedBasis, joinedRounds, liftedBasis}
+use Rattle.lattice.specs.Signed.{normal}
+use Rattle.basis.specs.Signed.{joinedBasis, joinedRounds, liftedBasis}
 
 -- A computation is laid out in the tables, a formula stands at the front of q, is narrow under the sign s, and there is room for what is held.
 pub record Ready (s : Bool) (n e : ℕ) (q counts offs starts values : List ℕ) (mw mb : ℕ) : Type 0 where

@@ -13,14 +13,11 @@ use Rattle.model.specs.Lists.{sum}
 use Rattle.model.specs.Frames.{word}
 use Rattle.model.specs.Formula.{Formula, prefix, ahead, one, two, sign, token, spelt, formulasIn, single, formulaOf, weigh, tokens, atoms}
 use Rattle.model.specs.Formula.Formula.{inRange, not, and, or, possibly, always}
+use Rattle.codec.specs.Formulas.{formulas}
 use Rattle.codec.proofs.Bytes.{Bytes, bytes-cons, bytes-append}
 use Rattle.codec.proofs.Cases.{none-some, cases}
 
 -- FUEL
-
--- The formulas that bytes spell, one after another.
-abbrev pub formulas : List ℕ → Option (List Formula)
-formulas q = formulasIn (suc (length q)) q
 
 -- What is made of a token depends only on what is made of the bytes after it.
 token-same :
@@ -54,12 +51,12 @@ formulas-token t q = token-same (formulasIn (suc (length q))) formulas t q (eqb 
 
 -- THE PREFIX FORM READS BACK
 
-one-ahead : (c : Formula → Formula) (f : Formula) (o : Option (List Formula)) → one c (ahead f o) ≡ ahead (c f) o
+pub one-ahead : (c : Formula → Formula) (f : Formula) (o : Option (List Formula)) → one c (ahead f o) ≡ ahead (c f) o
 unfolding one ahead
 one-ahead c f none = refl
 one-ahead c f (some l) = refl
 
-two-ahead : (c : Formula → Formula → Formula) (f g : Formula) (o : Option (List Formula)) → two c (ahead f (ahead g o)) ≡ ahead (c f g) o
+pub two-ahead : (c : Formula → Formula → Formula) (f g : Formula) (o : Option (List Formula)) → two c (ahead f (ahead g o)) ≡ ahead (c f g) o
 unfolding two ahead
 two-ahead c f g none = refl
 two-ahead c f g (some l) = refl

@@ -9,8 +9,9 @@ use lib.Dec.{eqb}
 use lib.ListN.{length, take, getD, length-append}
 use lib.Seq.{take-at, take-suc, take-length}
 use borrow.Author.Tests.{eq-eqb, eqb-true}
-use Rattle.model.specs.Lists.{sum, total, between}
+use Rattle.model.specs.Lists.{total, between}
 use Rattle.model.specs.Bytes.{more, push, linesOf, bytes, frame, bad, carried, items, hex, checkByte, line}
+use Rattle.lattice.proofs.Sums.{sum-snoc}
 use Rattle.codec.proofs.Bytes.{Bytes, bytes-none, bytes-cons, bytes-append, bytes-left, bytes-right}
 use Rattle.codec.proofs.Cases.{cases, between-true, between-in}
 use Rattle.codec.proofs.Frames.{Sized}
@@ -20,15 +21,6 @@ pub use Rattle.lattice.proofs.Line.{length-line}
 
 -- THE CHECK BYTE
 
-pub total-append : (l m : List ℕ) → total (l ++ m) ≡ total l + total m
-unfolding sum
-total-append [] m = omega arith
-total-append (x ∷ l) m = omega (arith, total-append l m)
-
-total-one : (x : ℕ) → total (x ∷ []) ≡ x
-unfolding sum
-total-one x = omega arith
-
 -- A frame with its check byte.
 abbrev pub checked : List ℕ → List ℕ
 checked f = f ++ (checkByte f ∷ [])
@@ -36,7 +28,7 @@ checked f = f ++ (checkByte f ∷ [])
 -- The check byte brings the sum to zero.
 pub check-zero : (f : List ℕ) → total (checked f) % 256 ≡ 0
 unfolding checkByte
-check-zero f = omega (arith, total-append f (checkByte f ∷ []), total-one (checkByte f))
+check-zero f = omega (arith, sum-snoc (λ x. x) f (checkByte f))
 
 -- It is a byte.
 pub check-byte : (f : List ℕ) → checkByte f < 256
@@ -46,7 +38,7 @@ check-byte f = omega arith
 -- No other byte does.
 pub check-only : (f : List ℕ) (x : ℕ) → x < 256 → total (f ++ (x ∷ [])) % 256 ≡ 0 → x ≡ checkByte f
 unfolding checkByte
-check-only f x h e = omega (arith, total-append f (x ∷ []), total-one x)
+check-only f x h e = omega (arith, sum-snoc (λ x. x) f x)
 
 pub bytes-checked : (f : List ℕ) → Bytes f → Bytes (checked f)
 bytes-checked f h = bytes-append f (checkByte f ∷ []) h (bytes-cons (checkByte f) [] (check-byte f) bytes-none)

@@ -118,7 +118,7 @@ module _ (K : Computation) (ok : Valid K) where
   -- Join and meet of consistent cuts are consistent.
   pub join-consistent : (c d : Cut) → Consistent K c → Consistent K d → Consistent K (join c d)
   join-consistent c d p q = record {
-    size = length-join c d (p .size ∙ sym (q .size)) ∙ p .size;
+    size = omega (arith, length-join c d, p .size, q .size);
     within = λ j. omega (arith, join-at c d j, p .within j, q .within j);
     closed = λ j. at j (decLe (c ! j) (d ! j));
   }

@@ -1,5 +1,5 @@
 -- The laws of cuts: containment, join and meet, the number of events.
-use mathlib.Core.Path.{_≡_, refl, ap, sym}
+use mathlib.Core.Path.{_≡_, refl, ap}
 use mathlib.Core.Logic.{_↔_, inl, inr}
 use Prim.Native.Nat.{ℕ, zero, suc, _≤_, max, min}
 use native.Mathlib.Omega.{arith}
@@ -58,11 +58,11 @@ meet-at (x ∷ c) [] (suc j) = meet-at c [] j
 meet-at (x ∷ c) (y ∷ d) zero = refl
 meet-at (x ∷ c) (y ∷ d) (suc j) = meet-at c d j
 
-pub length-join : (c d : Cut) → length c ≡ length d → length (join c d) ≡ length c
+pub length-join : (c d : Cut) → length (join c d) ≡ max (length c) (length d)
 unfolding join
-length-join [] d h = sym h
-length-join (x ∷ c) [] h = refl
-length-join (x ∷ c) (y ∷ d) h = ap suc (length-join c d (omega arith))
+length-join [] d = omega arith
+length-join (x ∷ c) [] = omega arith
+length-join (x ∷ c) (y ∷ d) = omega (arith, length-join c d)
 
 pub length-meet : (c d : Cut) → length (meet c d) ≡ length c
 unfolding meet

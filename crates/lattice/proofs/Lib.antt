@@ -1,6 +1,7 @@
 pub mod Valid
 pub mod Tests
 pub mod Lists
+pub mod Sums
 pub mod Cuts
 pub mod Consistency
 pub mod Histories
@@ -20,6 +21,7 @@ pub mod Built
 pub mod Size
 pub mod Shape
 pub mod Weights
+pub mod Signed
 pub mod Rounds
 pub mod Held
 pub mod Answers

@@ -4,9 +4,9 @@ use Prim.Native.Nat.{ℕ, suc, _+_, _*_, _≤_, _<_, _^_}
 use native.Mathlib.Omega.{arith}
 use native.Mathlib.Nat.{le-trans, mul-le-mul, mul-le-mul-right}
 use mathlib.Core.Bool.{true}
-use mathlib.Core.List.{List, [], _∷_, map}
+use mathlib.Core.List.{List}
 use lib.ListN.{length}
-use Rattle.model.specs.Lists.{sum, total}
+use Rattle.model.specs.Lists.{sum}
 use Rattle.model.specs.Formula.{Formula, signs}
 use Rattle.model.specs.Cut.{Cut, empty}
 use Rattle.model.specs.Computation.{Computation, Event, stations, eventCount}
@@ -16,21 +16,10 @@ use Rattle.model.specs.Size.{width, narrow}
 use Rattle.model.specs.Structure.{Structure}
 use Rattle.model.specs.Basis.{start, basis}
 use Rattle.model.specs.Rounds.{roundsOfPair, roundsOfPairs, rounds}
+use Rattle.lattice.proofs.Sums.{sum-le, sum-sum-le}
 use Rattle.lattice.proofs.Intersection.{rounds-le}
 use Rattle.lattice.proofs.Size.{basis-width, narrow-both, narrow-either, narrow-possible, narrow-impossible}
 use Rattle.lattice.proofs.Weights.{signsOf, weighed, weight-true}
-
--- SUMS
-
-sum-le : {A : Type 0} (f : A → ℕ) (n : ℕ) → ((x : A) → f x ≤ n) → (l : List A) → sum f l ≤ length l * n
-unfolding sum
-sum-le f n h [] = omega arith
-sum-le f n h (x ∷ l) = omega (arith, h x, sum-le f n h l)
-
-sum-sum-le : {A : Type 0} (f : A → ℕ) (n : ℕ) → ((x : A) → f x ≤ n) → (ls : List (List A)) → sum (sum f) ls ≤ total (map length ls) * n
-unfolding sum
-sum-sum-le f n h [] = omega arith
-sum-sum-le f n h (l ∷ ls) = omega (arith, sum-le f n h l, sum-sum-le f n h ls)
 
 -- PAIRS
 

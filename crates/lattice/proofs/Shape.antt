@@ -19,7 +19,7 @@ pub record Shaped (K : Computation) (S : Structure) : Type 0 where
   pub rows-are : map length (S .rows) ≡ full K
   pub bars-are : All (Consistent K) (S .bars)
 
-same-lengths : {A B : Type 0} (f : A → B) (ls : List (List A)) → map length (map (map f) ls) ≡ map length ls
+pub same-lengths : {A B : Type 0} (f : A → B) (ls : List (List A)) → map length (map (map f) ls) ≡ map length ls
 same-lengths f [] = refl
 same-lengths f (l ∷ ls) = rw (length-map l f, same-lengths f ls)
 

@@ -16,7 +16,7 @@ use Rattle.model.specs.Reply.{number}
 use Rattle.model.specs.declared.Fault.{Fault}
 use Rattle.wire.specs.Put.{putOf}
 use Rattle.wire.proofs.Puts.{length-put, put-nil, put-put}
-use Rattle.wire.proofs.Hexes.{length-line}
+use Rattle.codec.proofs.Lines.{length-line}
 use Rattle.codec.proofs.Sizes.{sizes}
 use Rattle.frame.specs.declared.Admitted.{Admitted}
 use Rattle.frame.specs.declared.Step.{Step}

@@ -2,13 +2,12 @@
 use mathlib.Core.Path.{_≡_, refl, sym, ap, ap₂, subst, _∙_}
 use Prim.Native.Nat.{ℕ, zero, suc, _+_, _-_, _*_, _≤_, _<_}
 use native.Mathlib.Omega.{arith}
-use native.Mathlib.Numerals.{add-one}
 use native.Mathlib.Nat.{suc-mul, zero-mul, add-zero, mul-le-mul-right, not-suc-le-zero}
 use mathlib.Core.List.{List, [], _∷_, _++_, map, append-assoc, append-nil}
 use mathlib.Core.Bool.{Bool, true, false, cond}
 use mathlib.Core.Option.{none, some}
-use lib.Dec.{eqb, ltb, leb·zero}
-use lib.ListN.{length, getD, take, drop, set, replicate, length-drop, length-replicate, getD-replicate, take-append-drop, List·getD-append}
+use lib.Dec.{eqb, ltb}
+use lib.ListN.{length, getD, take, drop, set, replicate, length-drop, length-replicate, getD-replicate, List·getD-append}
 use lib.Seq.{paste, length-take-le, take-at, drop-at, drop-drop, take-all, getD-take, getD-drop, getD-append-add, drop-length}
 use borrow.Author.Tests.{eq-eqb, ne-eqb, eqb-false, ltb-true, ltb-false}
 use borrow.Rule.Slice.PartMut.{putMid, post-is}
@@ -17,12 +16,15 @@ use Rattle.model.specs.Cut.{Cut, inside, insideAny}
 use Rattle.model.specs.Computation.{Computation, full}
 use Rattle.model.specs.Structure.{Structure, joinRow, joinRows, greatest, keep, build}
 use Rattle.model.specs.Basis.{each, below, lowered, barred}
+use Rattle.lattice.proofs.Cuts.{⊑-inside, join-at, empty-⊑}
 use Rattle.structure.specs.Layout.{decoded, rowsAt, stationsAt, structureAt, standing, barsAt, cells, barCells}
 use Rattle.structure.specs.Laid.{Laid}
 use Rattle.steps.specs.Rows.{rowAt, absent, belowRow, Ended}
-use Rattle.steps.proofs.Laws.{join-at}
-use Rattle.steps.proofs.Parts.{row-fits, next-fits, row-zero, row-suc, rows-more, paste-part, paste-take, front-part}
-use Rattle.steps.proofs.Built.{decoded-none, decoded-some, start-there, build-there, keep-free, no-bars}
+use Rattle.structure.proofs.Parts.{part-same, paste-part, paste-take}
+use Rattle.structure.proofs.Rows.{decoded-none, decoded-some}
+use Rattle.structure.proofs.Places.{one-more, cells-are, next-fits, row-fits}
+use Rattle.steps.proofs.Parts.{row-zero, row-suc, rows-more}
+use Rattle.steps.proofs.Built.{start-there, build-there, keep-free, no-bars}
 use Rattle.steps.proofs.Atoms.{not-both}
 use Rattle.structure.proofs.Standing.{standing-same, standing-add}
 use Rattle.modal.specs.Post.{Least, Lowered, Possible, Impossible}
@@ -46,16 +48,10 @@ module _ (n : ℕ) (g starts : List ℕ) (i : ℕ) where
       go true = length-take-le n (drop (i * n) starts) (omega (arith, length-drop (i * n) starts, row-fits i e n h))
       go false = length-replicate {A = ℕ} n 255
 
-inside-empty : (n : ℕ) (d : Cut) → inside (replicate n 0) d ≡ true
-unfolding inside
-inside-empty zero d = refl
-inside-empty (suc n) [] = rw (inside-empty n [])
-inside-empty (suc n) (y ∷ d) = rw (leb·zero y, inside-empty n d)
-
 -- The empty cut is contained in every cut, so the least row is there.
 pub below-least : (n : ℕ) (g starts w : List ℕ) → 0 < n → rowAt n 0 starts ≡ replicate n 0 → rowAt n 0 w ≡ belowRow n g starts 0 → getD w 0 0 ≡ 255 → ⊥
 below-least n g starts w h e f q =
-    let r : rowAt n 0 w ≡ replicate n 0 = f ∙ sym (below-in n g starts 0 (ap (λ (x : Cut). inside x g) e ∙ inside-empty n g)) ∙ e in
+    let r : rowAt n 0 w ≡ replicate n 0 = f ∙ sym (below-in n g starts 0 (ap (λ (x : Cut). inside x g) e ∙ ⊑-inside (replicate n 0) g (empty-⊑ n g))) ∙ e in
     let z : _≡_ {A = ℕ} 0 255 =
     sym (getD-replicate n 0 0 0 h) ∙ ap (λ (x : List ℕ). getD x 0 0) (sym r ∙ row-zero n w) ∙ getD-take n w 0 0 h ∙ q in
     omega arith
@@ -83,7 +79,7 @@ drop-whole k q = take-all (length q - k) (drop k q) (omega (arith, length-drop k
 pub put-end : (k : ℕ) (w p : List ℕ) → k ≤ length w → putMid k (length w - k) w p ≡ take k w ++ p
 put-end k w p h = rw (post-is k (length w) w h, drop-length w, append-nil p)
 
-each-append : (f : Structure → List Structure) (L M : List Structure) → each f (L ++ M) ≡ each f L ++ each f M
+pub each-append : (f : Structure → List Structure) (L M : List Structure) → each f (L ++ M) ≡ each f L ++ each f M
 unfolding each
 each-append f [] M = refl
 each-append f (S ∷ L) M = ap (λ (l : List Structure). f S ++ l) (each-append f L M) ∙ sym (append-assoc (f S) (each f L) (each f M))
@@ -106,10 +102,10 @@ module _ (n e i : ℕ) (starts w w₁ p b b₁ q : List ℕ) (z : 0 < n) (hw : i
 
   pub cells-more : drop ((i + 1) * ((e + 1) * n)) w₂ ≡ drop ((i + 1) * ((e + 1) * n)) w
   cells-more =
-      behind-more (i * ((e + 1) * n)) ((e + 1) * n) ((i + 1) * ((e + 1) * n)) w₁ p w hw (ap (λ (x : ℕ). x * ((e + 1) * n)) (add-one i) ∙ suc-mul i ((e + 1) * n)) (one .cells-behind) dw
+      behind-more (i * ((e + 1) * n)) ((e + 1) * n) ((i + 1) * ((e + 1) * n)) w₁ p w hw (one-more i ((e + 1) * n)) (one .cells-behind) dw
 
   pub bars-more : drop ((i + 1) * (16 * n)) b₂ ≡ drop ((i + 1) * (16 * n)) b
-  bars-more = behind-more (i * (16 * n)) (16 * n) ((i + 1) * (16 * n)) b₁ q b hb (ap (λ (x : ℕ). x * (16 * n)) (add-one i) ∙ suc-mul i (16 * n)) (one .bars-behind) db
+  bars-more = behind-more (i * (16 * n)) (16 * n) ((i + 1) * (16 * n)) b₁ q b hb (one-more i (16 * n)) (one .bars-behind) db
 
   least-more : Least ((e + 1) * n) (i + 1) w₂
   least-more j h f = go (ltb j i) refl
@@ -118,7 +114,7 @@ module _ (n e i : ℕ) (starts w w₁ p b b₁ q : List ℕ) (z : 0 < n) (hw : i
       l = length-take-le (i * ((e + 1) * n)) w₁ hw
 
       s : 0 < (e + 1) * n
-      s = omega (arith, ap (λ (x : ℕ). x * n) (add-one e) ∙ suc-mul e n)
+      s = omega (arith, one-more e n)
 
       go : (t : Bool) → ltb j i ≡ t → ⊥
       go true g =
@@ -135,7 +131,7 @@ module _ (n e i : ℕ) (starts w w₁ p b b₁ q : List ℕ) (z : 0 < n) (hw : i
   unfolding lowered each standing
   lower-turn = record {
     stands = λ K counts offs values laid.
-        let c : suc (total (full K)) * n ≡ (e + 1) * n = ap (λ (x : ℕ). suc x * n) (laid .counted) ∙ ap (λ (x : ℕ). x * n) (sym (add-one e)) in
+        let c = cells-are n e (full K) (laid .counted) in
         let k : i * cells n (full K) ≡ i * ((e + 1) * n) = ap (λ (x : ℕ). i * x) c in
         let x : drop (i * cells n (full K)) w₂ ≡ p = ap (λ (x : ℕ). drop x w₂) k ∙ drop-at (take (i * ((e + 1) * n)) w₁) p (i * ((e + 1) * n)) (length-take-le (i * ((e + 1) * n)) w₁ hw) in
         let y : drop (i * barCells n) b₂ ≡ q = drop-at (take (i * (16 * n)) b₁) q (i * (16 * n)) (length-take-le (i * (16 * n)) b₁ hb) in
@@ -267,47 +263,35 @@ module _ (n : ℕ) (z : 0 < n) where
 -- NOT POSSIBLY
 
 -- All cuts: the starts themselves.
-all-rows : (n e : ℕ) (starts w w₂ : List ℕ) → (e + 1) * n ≤ length w → (e + 1) * n ≤ length starts → w₂ ≡ paste w 0 (drop 0 starts) ((e + 1) * n)
+all-rows : (n e : ℕ) (starts w w₂ : List ℕ) → (e + 1) * n ≤ length starts → w₂ ≡ paste w 0 (drop 0 starts) ((e + 1) * n)
     → (i : ℕ) → i ≤ e → rowAt n i w₂ ≡ rowAt n i starts
-all-rows n e starts w w₂ h l q i k =
-    let s : ℕ = (e + 1) * n in
-    let f = row-fits i e n k in
-    let p : take s w₂ ≡ take s starts = ap (take s) q ∙ paste-part w 0 starts s (omega arith) l in
-    let cut : (x : List ℕ) → s ≤ length x → rowAt n i x ≡ rowAt n i (take s x) =
-    λ x m. ap (rowAt n i) (sym (take-append-drop s x)) ∙ front-part (take s x) (drop s x) (i * n) n (omega (arith, length-take-le s x m)) in
-    let m : s ≤ length w₂ = omega (arith, ap length q, lib.Seq.length-paste w 0 starts s (omega arith) l) in
-    cut w₂ m ∙ ap (rowAt n i) p ∙ sym (cut starts l)
+all-rows n e starts w w₂ l q i k =
+    part-same ((e + 1) * n) w₂ starts (ap (take ((e + 1) * n)) q ∙ paste-part w 0 starts ((e + 1) * n) (omega arith) l) (i * n) n (row-fits i e n k)
 
-module _ (n e k : ℕ) (starts w w₂ b b₁ b₂ : List ℕ) (z : 0 < n) (few : k ≤ 16) (hw : (e + 1) * n ≤ length w) (hs : (e + 1) * n ≤ length starts) (hb : k * n ≤ length b₁)
+module _ (n e k : ℕ) (starts w w₂ b b₁ b₂ : List ℕ) (z : 0 < n) (few : k ≤ 16) (hs : (e + 1) * n ≤ length starts)
     (there : getD starts 0 0 ≡ 255 → ⊥) (firsts : Least ((e + 1) * n) k w)
     (rows : (i : ℕ) → i < k → (counts d : List ℕ) → total counts ≡ e → rowAt n i b₁ ≡ greatest (structureAt n counts (drop (i * ((e + 1) * n)) w) d))
     (end : Ended 0 k n b₁ b₂) (q : w₂ ≡ paste w 0 (drop 0 starts) ((e + 1) * n)) where
   first-all : getD w₂ 0 0 ≡ 255 → ⊥
   first-all f =
-      let r : take n w₂ ≡ take n starts = sym (row-zero n w₂) ∙ all-rows n e starts w w₂ hw hs q 0 (omega arith) ∙ row-zero n starts in
+      let r : take n w₂ ≡ take n starts = sym (row-zero n w₂) ∙ all-rows n e starts w w₂ hs q 0 (omega arith) ∙ row-zero n starts in
       there (sym (getD-take n starts 0 0 z) ∙ ap (λ (x : List ℕ). getD x 0 0) (sym r) ∙ getD-take n w₂ 0 0 z ∙ f)
 
   kept-rows : (i : ℕ) → i < k → rowAt n i b₂ ≡ rowAt n i b₁
-  kept-rows i h =
-      let f = next-fits i k n h in
-      let c : 0 + k * n ≡ k * n = omega arith in
-      let e₂ : take (k * n) b₂ ≡ take (k * n) b₁ = ap (λ (x : ℕ). take x b₂) (sym c) ∙ end .front ∙ ap (λ (x : ℕ). take x b₁) c in
-      let l : length (take (k * n) b₁) ≡ k * n = length-take-le (k * n) b₁ hb in
-      ap (rowAt n i) (sym (take-append-drop (k * n) b₂)) ∙ front-part (take (k * n) b₂) (drop (k * n) b₂) (i * n) n (omega (arith, ap length e₂))
-      ∙ ap (rowAt n i) e₂ ∙ sym (front-part (take (k * n) b₁) (drop (k * n) b₁) (i * n) n (omega arith)) ∙ ap (rowAt n i) (take-append-drop (k * n) b₁)
+  kept-rows i h = part-same (0 + k * n) b₂ b₁ (end .front) (i * n) n (omega (arith, next-fits i k n h))
 
   module _ (K : Computation) (counts offs values : List ℕ) (laid : Laid K n e counts offs starts values) where
     barred-is : barred K (standing n (full K) k w b) ≡ keep (structureAt n (full K) w₂ b₂)
     unfolding barred
     barred-is =
-        let c : (e + 1) * n ≡ suc (total (full K)) * n = sym (ap (λ (x : ℕ). suc x * n) (laid .counted) ∙ ap (λ (x : ℕ). x * n) (sym (add-one e))) in
+        let c = sym (cells-are n e (full K) (laid .counted)) in
         let bars : barsAt n 16 b₂ ≡ map greatest (standing n (full K) k w b) =
         bars-are n z 16 k b₂ (full K) w b few
         (λ j h. kept-rows j h ∙ rows j h (full K) (drop (j * barCells n) b) (laid .counted) ∙ ap (λ (x : ℕ). greatest (structureAt n (full K) (drop (j * x) w) (drop (j * barCells n) b))) c)
         (λ j h f. firsts j h (ap (λ (x : ℕ). getD w (j * x) 0) c ∙ f))
         (λ h. ap (λ (x : ℕ). getD b₂ x 0) (let o : k * n ≡ 0 + k * n = omega arith in o) ∙ end .ends h) in
         build-there K n e counts offs starts values laid some w₂
-        (λ i h. ap decoded (all-rows n e starts w w₂ hw hs q i h) ∙ decoded-some (rowAt n i starts) (start-there K n e counts offs starts values laid i h))
+        (λ i h. ap decoded (all-rows n e starts w w₂ hs q i h) ∙ decoded-some (rowAt n i starts) (start-there K n e counts offs starts values laid i h))
         (map greatest (standing n (full K) k w b)) first-all
         ∙ ap (λ (l : List Cut). keep (record { least = take n w₂; rows = stationsAt n (full K) (drop n w₂); bars = l })) (sym bars)
 

@@ -17,7 +17,7 @@ pub fn below_row(ws: &mut [u8], i: usize, n: usize, e: usize, g: &[u8], starts: 
 {
     let at = i * n;
     if structure::contained(starts, at, g, 0, n) {
-        steps::copy(ws, at, starts, at, n);
+        structure::copy(ws, at, starts, at, n);
     } else {
         steps::fill(ws, at, n, 255);
     }
@@ -74,7 +74,7 @@ pub fn bar_each(ws: &[u8], bs: &mut [u8], count: usize, n: usize, e: usize)
     while i < count {
         let mut g = [0u8; 8];
         structure::greatest(ws, i * size, n, e, &mut g);
-        steps::copy(bs, i * n, &g, 0, n);
+        structure::copy(bs, i * n, &g, 0, n);
         i += 1;
     }
 }
@@ -87,7 +87,7 @@ pub fn bar(ws: &mut [u8], bs: &mut [u8], count: usize, n: usize, e: usize, start
 {
     bar_each(ws, bs, count, n, e);
     steps::end_bars(bs, 0, count, n);
-    steps::copy(ws, 0, starts, 0, (e + 1) * n);
+    structure::copy(ws, 0, starts, 0, (e + 1) * n);
     let mut g = [0u8; 8];
     structure::greatest(ws, 0, n, e, &mut g);
     if structure::barred(&g, bs, 0, n) {

@@ -1,58 +1,32 @@
 -- Bars of two slots, one after the other in a third.
 use mathlib.Core.Path.{_≡_, refl, sym, ap, ap₂, _∙_}
-use mathlib.Core.Logic.{_⊎_, inl, inr}
 use Prim.Native.Nat.{ℕ, zero, suc, _+_, _-_, _*_, _≤_, _<_}
 use native.Mathlib.Omega.{arith}
-use native.Mathlib.Numerals.{add-one}
 use native.Mathlib.Nat.{suc-mul, zero-mul, add-mul, mul-le-mul-right, not-suc-le-zero, le-of-suc-le-suc}
 use mathlib.Core.List.{List, [], _∷_, _++_}
 use mathlib.Core.Bool.{Bool, true, false, cond, not, _&&_}
 use lib.Dec.{eqb}
-use lib.ListN.{length, getD, take, drop, length-append, length-drop, List·getD-append}
-use lib.Seq.{paste, take-take, getD-take, getD-drop, drop-drop, length-take-le, getD-append-add}
+use lib.ListN.{length, getD, take, drop, length-append, length-drop}
+use lib.Seq.{paste, getD-take, getD-drop, drop-drop}
 use borrow.Author.Tests.{eq-eqb, ne-eqb}
 use Rattle.model.specs.Cut.{Cut}
-use Rattle.structure.specs.Layout.{barsAt}
+use Rattle.lattice.proofs.Tests.{and-true, false-iff, not-iff}
+use Rattle.structure.specs.Layout.{cutsAt, barsAt}
+use Rattle.structure.proofs.Parts.{front-same, part-same, paste-front, paste-part}
+use Rattle.structure.proofs.Rows.{first-at}
+use Rattle.structure.proofs.Places.{one-more}
+use Rattle.structure.proofs.Listed.{cuts-add, cuts-same}
 use Rattle.steps.specs.Rows.{Ended}
-use Rattle.steps.proofs.Parts.{paste-before, paste-part}
-use Rattle.structure.proofs.Standing.{drop-take}
 use Rattle.pairs.specs.Post.{BarsJoined}
-
--- COPYING
-
--- What is not written is as before.
-pub paste-other : (d : List ℕ) (at : ℕ) (s : List ℕ) (m j : ℕ) → at + m ≤ length d → m ≤ length s → (j < at) ⊎ (at + m ≤ j) → getD (paste d at s m) j 0 ≡ getD d j 0
-paste-other d at s m j h l (inl k) =
-    let a : length (take at d) ≡ at = length-take-le at d (omega arith) in
-    List·getD-append (take at d ++ take m s) (drop (at + m) d) 0 j (omega (arith, length-append (take at d) (take m s)))
-    ∙ List·getD-append (take at d) (take m s) 0 j (omega arith) ∙ getD-take at d j 0 k
-paste-other d at s m j h l (inr k) =
-    let a : length (take at d ++ take m s) ≡ at + m = lib.Seq.length-paste-head d at s m (omega arith) l in
-    let e : length (take at d ++ take m s) + (j - (at + m)) ≡ j = omega arith in
-    let f : at + m + (j - (at + m)) ≡ j = omega arith in
-    ap (λ (x : ℕ). getD (paste d at s m) x 0) (sym e) ∙ getD-append-add (take at d ++ take m s) (drop (at + m) d) (j - (at + m)) 0
-    ∙ getD-drop (at + m) d (j - (at + m)) 0 ∙ ap (λ (x : ℕ). getD d x 0) f
-
-pub shift-reads : (w : List ℕ) (from to len i : ℕ) → from + len ≤ length w → to + len ≤ length w → (from + len ≤ to) ⊎ (to ≤ from) → i < len
-    → getD (drop from w) i 0 ≡ getD (paste w to (drop from w) i) (from + i) 0
-shift-reads w from to len i h l k g =
-    getD-drop from w i 0 ∙ sym (paste-other w to (drop from w) i (from + i) (omega arith) (omega (arith, length-drop from w)) (side k))
-  where
-    side : (from + len ≤ to) ⊎ (to ≤ from) → (from + i < to) ⊎ (to + i ≤ from + i)
-    side (inl a) = inl (omega arith)
-    side (inr a) = inr (omega arith)
 
 -- COUNTING
 
 module _ (n at i : ℕ) (b : List ℕ) (h : i < 16) where
-  first-of : getD (drop (at + i * n) b) 0 0 ≡ getD b (at + i * n) 0
-  first-of = getD-drop (at + i * n) b 0 0 ∙ ap (λ (x : ℕ). getD b x 0) (let o : at + i * n + 0 ≡ at + i * n = omega arith in o)
-
   pub count-end : getD b (at + i * n) 0 ≡ 255 → length (barsAt n (16 - i) (drop (at + i * n) b)) ≡ 0
   unfolding barsAt
   count-end f =
       let e : 16 - i ≡ suc (15 - i) = omega arith in
-      rw (e, eq-eqb _ 255 (first-of ∙ f))
+      rw (e, eq-eqb _ 255 (first-at b (at + i * n) ∙ f))
 
   pub count-more : (getD b (at + i * n) 0 ≡ 255 → ⊥)
       → i + length (barsAt n (16 - i) (drop (at + i * n) b)) ≡ i + 1 + length (barsAt n (16 - (i + 1)) (drop (at + (i + 1) * n) b))
@@ -60,8 +34,8 @@ module _ (n at i : ℕ) (b : List ℕ) (h : i < 16) where
   count-more f =
       let e : 16 - i ≡ suc (16 - (i + 1)) = omega arith in
       let d : drop n (drop (at + i * n) b) ≡ drop (at + (i + 1) * n) b =
-      drop-drop n (at + i * n) b ∙ ap (λ (x : ℕ). drop x b) (let o : at + i * n + n ≡ at + (i + 1) * n = omega (arith, ap (λ (x : ℕ). x * n) (add-one i) ∙ suc-mul i n) in o) in
-      let g : eqb (getD (drop (at + i * n) b) 0 0) 255 ≡ false = ne-eqb _ 255 (λ u. f (sym first-of ∙ u)) in
+      drop-drop n (at + i * n) b ∙ ap (λ (x : ℕ). drop x b) (let o : at + i * n + n ≡ at + (i + 1) * n = omega (arith, one-more i n) in o) in
+      let g : eqb (getD (drop (at + i * n) b) 0 0) 255 ≡ false = ne-eqb _ 255 (λ u. f (sym (first-at b (at + i * n)) ∙ u)) in
       let z : length (barsAt n (16 - i) (drop (at + i * n) b)) ≡ suc (length (barsAt n (16 - (i + 1)) (drop (at + (i + 1) * n) b))) =
       ap (λ (x : ℕ). length (barsAt n x (drop (at + i * n) b))) e
       ∙ ap (λ (x : Bool). length (cond x [] (take n (drop (at + i * n) b) ∷ barsAt n (16 - (i + 1)) (drop n (drop (at + i * n) b))))) g
@@ -69,11 +43,6 @@ module _ (n at i : ℕ) (b : List ℕ) (h : i < 16) where
       omega arith
 
 -- LISTS OF BARS
-
--- m cuts of n cells each.
-unfoldable cutsAt : ℕ → ℕ → List ℕ → List Cut
-cutsAt n zero b = []
-cutsAt n (suc m) b = take n b ∷ cutsAt n m (drop n b)
 
 -- No first cell is 255.
 unfoldable clear : List Cut → Bool
@@ -83,32 +52,11 @@ clear (c ∷ l) = not (eqb (getD c 0 0) 255) && clear l
 clear-both : (l m : List Cut) → clear l ≡ true → clear m ≡ true → clear (l ++ m) ≡ true
 unfolding clear
 clear-both [] m h k = k
-clear-both (c ∷ l) m h k = go (not (eqb (getD c 0 0) 255)) (clear-both l m) h
-  where
-    go : (x : Bool) → (clear l ≡ true → clear m ≡ true → clear (l ++ m) ≡ true) → x && clear l ≡ true → x && clear (l ++ m) ≡ true
-    go true f e = f e k
-    go false f e = e
+clear-both (c ∷ l) m h k =
+    let r = and-true (not (eqb (getD c 0 0) 255)) (clear l) .0 h in
+    and-true (not (eqb (getD c 0 0) 255)) (clear (l ++ m)) .1 (r .0, clear-both l m (r .1) k)
 
 module _ (n : ℕ) where
-  cuts-take : (m : ℕ) (b : List ℕ) → cutsAt n m (take (m * n) b) ≡ cutsAt n m b
-  unfolding cutsAt
-  cuts-take zero b = refl
-  cuts-take (suc m) b =
-      let e : suc m * n ≡ n + m * n = omega (arith, suc-mul m n) in
-      rw e
-      (ap₂ (λ (x : Cut) (l : List Cut). x ∷ l) (take-take n (n + m * n) b (omega arith)) (ap (cutsAt n m) (drop-take n (m * n) b) ∙ cuts-take m (drop n b)))
-
-  cuts-same : (m : ℕ) (a b : List ℕ) → take (m * n) a ≡ take (m * n) b → cutsAt n m a ≡ cutsAt n m b
-  cuts-same m a b e = sym (cuts-take m a) ∙ ap (cutsAt n m) e ∙ cuts-take m b
-
-  cuts-add : (k m : ℕ) (b : List ℕ) → cutsAt n (k + m) b ≡ cutsAt n k b ++ cutsAt n m (drop (k * n) b)
-  unfolding cutsAt
-  cuts-add zero m b = ap₂ (λ (x y : ℕ). cutsAt n x (drop y b)) (let o : 0 + m ≡ m = omega arith in o) (sym (zero-mul n))
-  cuts-add (suc k) m b =
-      ap (λ (x : ℕ). cutsAt n x b) (native.Mathlib.Nat.suc-add k m)
-      ∙ ap (λ (l : List Cut). take n b ∷ l)
-      (cuts-add k m (drop n b) ∙ ap (λ (x : List ℕ). cutsAt n k (drop n b) ++ cutsAt n m x) (drop-drop (k * n) n b ∙ ap (λ (x : ℕ). drop x b) (let o : n + k * n ≡ suc k * n = omega (arith, suc-mul k n) in o)))
-
   -- The bars of a slot as cuts.
   bars-cuts : (m : ℕ) (b : List ℕ) → barsAt n m b ≡ cutsAt n (length (barsAt n m b)) b
   unfolding barsAt cutsAt
@@ -138,31 +86,23 @@ module _ (n : ℕ) where
   cuts-bars h (c ∷ X) (suc m) b e k l f =
       let a : take n b ≡ c = cc in
       let t : cutsAt n (length X) (drop n b) ≡ X = cc in
-      let s : eqb (getD c 0 0) 255 ≡ false = not-first (eqb (getD c 0 0) 255) (clear X) k in
-      let u : clear X ≡ true = rest-clear (eqb (getD c 0 0) 255) (clear X) k in
+      let r = and-true (not (eqb (getD c 0 0) 255)) (clear X) .0 k in
+      let s : eqb (getD c 0 0) 255 ≡ false = false-iff (eqb (getD c 0 0) 255) .1 (not-iff (eqb (getD c 0 0) 255) .0 (r .0)) in
       let g : getD b 0 0 ≡ getD c 0 0 = sym (getD-take n b 0 0 h) ∙ ap (λ (x : Cut). getD x 0 0) a in
       let d : length X < m → getD (drop n b) (length X * n) 0 ≡ 255 =
       λ q. getD-drop n b (length X * n) 0 ∙ ap (λ (x : ℕ). getD b x 0) (let o : n + length X * n ≡ suc (length X) * n = omega (arith, suc-mul (length X) n) in o) ∙ f (omega arith) in
-      rw (g, s) (ap₂ (λ (x : Cut) (y : List Cut). x ∷ y) a (cuts-bars h X m (drop n b) t u (le-of-suc-le-suc l) d))
-    where
-      not-first : (x y : Bool) → not x && y ≡ true → x ≡ false
-      not-first true y q = q′ q
-        where
-          q′ : false ≡ true → true ≡ false
-          q′ z = sym z
-      not-first false y q = refl
-
-      rest-clear : (x y : Bool) → not x && y ≡ true → y ≡ true
-      rest-clear true y q = absurd (let z : _≡_ {A = ℕ} 0 1 = cc in omega arith)
-      rest-clear false y q = q
+      rw (g, s) (ap₂ (λ (x : Cut) (y : List Cut). x ∷ y) a (cuts-bars h X m (drop n b) t (r .1) (le-of-suc-le-suc l) d))
 
 -- THE JOIN
+
+pub fit-two : (k m n : ℕ) → k + m ≤ 16 → k * n + m * n ≤ 16 * n
+fit-two k m n h = omega (arith, mul-le-mul-right n h, add-mul k m n)
 
 module _ (n i j o k m : ℕ) (b b₁ b₂ b₃ : List ℕ) (z : 0 < n) (hi : i + 16 * n ≤ o) (hj : j + 16 * n ≤ o) (ho : o + 16 * n ≤ length b)
     (ek : k ≡ length (barsAt n 16 (drop i b))) (em : m ≡ length (barsAt n 16 (drop j b))) (few : k + m ≤ 16)
     (s₁ : b₁ ≡ paste b o (drop i b) (k * n)) (s₂ : b₂ ≡ paste b₁ (o + k * n) (drop j b₁) (m * n)) (end : Ended o (k + m) n b₂ b₃) where
   sums : k * n + m * n ≤ 16 * n
-  sums = omega (arith, mul-le-mul-right n few, add-mul k m n)
+  sums = fit-two k m n few
 
   l₁ : length b₁ ≡ length b
   l₁ = ap length s₁ ∙ lib.Seq.length-paste b o (drop i b) (k * n) (omega (arith, sums)) (omega (arith, sums, length-drop i b))
@@ -171,37 +111,30 @@ module _ (n i j o k m : ℕ) (b b₁ b₂ b₃ : List ℕ) (z : 0 < n) (hi : i +
   hs₂ = omega (arith, sums, length-drop j b₁, l₁)
 
   front₁ : take o b₁ ≡ take o b
-  front₁ = ap (take o) s₁ ∙ paste-before b o (drop i b) (k * n) (omega (arith, sums)) (omega (arith, sums, length-drop i b)) 0 o (omega arith)
+  front₁ = ap (take o) s₁ ∙ paste-front b o (drop i b) (k * n) (omega (arith, sums)) (omega (arith, sums, length-drop i b))
 
   front₂ : take (o + k * n) b₂ ≡ take (o + k * n) b₁
-  front₂ = ap (take (o + k * n)) s₂ ∙ paste-before b₁ (o + k * n) (drop j b₁) (m * n) (omega (arith, sums, l₁)) hs₂ 0 (o + k * n) (omega arith)
+  front₂ = ap (take (o + k * n)) s₂ ∙ paste-front b₁ (o + k * n) (drop j b₁) (m * n) (omega (arith, sums, l₁)) hs₂
 
   both-front : take (o + (k * n + m * n)) b₃ ≡ take (o + (k * n + m * n)) b₂
   both-front = ap (λ (x : ℕ). take (o + x) b₃) (sym (add-mul k m n)) ∙ end .front ∙ ap (λ (x : ℕ). take (o + x) b₂) (add-mul k m n)
 
-  short : (x y : ℕ) (v w : List ℕ) → x ≤ y → take y v ≡ take y w → take x v ≡ take x w
-  short x y v w h e = sym (take-take x y v h) ∙ ap (take x) e ∙ take-take x y w h
-
-  part : (x y : ℕ) (v w : List ℕ) → take (x + y) v ≡ take (x + y) w → take y (drop x v) ≡ take y (drop x w)
-  part x y v w e = sym (drop-take x y v) ∙ ap (drop x) e ∙ drop-take x y w
-
   first-cuts : cutsAt n k (drop o b₃) ≡ barsAt n 16 (drop i b)
   first-cuts =
       cuts-same n k (drop o b₃) (drop i b)
-      (part o (k * n) b₃ b₂ (short (o + k * n) (o + (k * n + m * n)) b₃ b₂ (omega arith) both-front)
-      ∙ part o (k * n) b₂ b₁ front₂
+      (part-same (o + (k * n + m * n)) b₃ b₂ both-front o (k * n) (omega arith)
+      ∙ part-same (o + k * n) b₂ b₁ front₂ o (k * n) (omega arith)
       ∙ ap (λ (x : List ℕ). take (k * n) (drop o x)) s₁ ∙ paste-part b o (drop i b) (k * n) (omega (arith, sums)) (omega (arith, sums, length-drop i b)))
       ∙ ap (λ (x : ℕ). cutsAt n x (drop i b)) ek ∙ sym (bars-cuts n 16 (drop i b))
 
   second-cuts : cutsAt n m (drop (k * n) (drop o b₃)) ≡ barsAt n 16 (drop j b)
   second-cuts =
       let d : drop (k * n) (drop o b₃) ≡ drop (o + k * n) b₃ = drop-drop (k * n) o b₃ in
-      let e : o + k * n + m * n ≡ o + (k * n + m * n) = omega arith in
       ap (cutsAt n m) d
       ∙ cuts-same n m (drop (o + k * n) b₃) (drop j b)
-      (part (o + k * n) (m * n) b₃ b₂ (ap (λ (x : ℕ). take x b₃) e ∙ both-front ∙ ap (λ (x : ℕ). take x b₂) (sym e))
+      (part-same (o + (k * n + m * n)) b₃ b₂ both-front (o + k * n) (m * n) (omega arith)
       ∙ ap (λ (x : List ℕ). take (m * n) (drop (o + k * n) x)) s₂ ∙ paste-part b₁ (o + k * n) (drop j b₁) (m * n) (omega (arith, sums, l₁)) hs₂
-      ∙ part j (m * n) b₁ b (short (j + m * n) o b₁ b (omega (arith, sums)) front₁))
+      ∙ part-same o b₁ b front₁ j (m * n) (omega (arith, sums)))
       ∙ ap (λ (x : ℕ). cutsAt n x (drop j b)) em ∙ sym (bars-cuts n 16 (drop j b))
 
   pub bars-joined : BarsJoined n i j o b b₃
@@ -213,7 +146,7 @@ module _ (n i j o k m : ℕ) (b b₁ b₂ b₃ : List ℕ) (z : 0 < n) (hi : i +
             (clear-both (barsAt n 16 (drop i b)) (barsAt n 16 (drop j b)) (bars-clear n z 16 (drop i b)) (bars-clear n z 16 (drop j b)))
             (omega arith)
             (λ q. getD-drop o b₃ (length (barsAt n 16 (drop i b) ++ barsAt n 16 (drop j b)) * n) 0 ∙ ap (λ (x : ℕ). getD b₃ (o + x * n) 0) l ∙ end .ends (omega arith));
-        front = short o (o + (k * n + m * n)) b₃ b₂ (omega arith) both-front ∙ short o (o + k * n) b₂ b₁ (omega arith) front₂ ∙ front₁;
+        front = front-same (o + (k * n + m * n)) b₃ b₂ both-front o (omega arith) ∙ front-same (o + k * n) b₂ b₁ front₂ o (omega arith) ∙ front₁;
       }
 
 -- The ends of the count.
@@ -225,6 +158,3 @@ count-start n at b =
 pub count-all : (n at i : ℕ) (b : List ℕ) (k : ℕ) → i ≡ 16 → k ≡ i + length (barsAt n (16 - i) (drop (at + i * n) b)) → i ≡ k
 unfolding barsAt
 count-all n at i b k e h = omega (arith, ap (λ (x : ℕ). length (barsAt n x (drop (at + i * n) b))) (let o : 16 - i ≡ 0 = omega arith in o))
-
-pub fit-two : (k m n : ℕ) → k + m ≤ 16 → k * n + m * n ≤ 16 * n
-fit-two k m n h = omega (arith, mul-le-mul-right n h, add-mul k m n)

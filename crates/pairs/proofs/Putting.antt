@@ -2,13 +2,12 @@
 use mathlib.Core.Path.{_≡_, refl, sym, ap, ap₂, _∙_}
 use Prim.Native.Nat.{ℕ, suc, _+_, _-_, _*_, _≤_, _<_}
 use native.Mathlib.Omega.{arith}
-use native.Mathlib.Numerals.{add-one}
-use native.Mathlib.Nat.{suc-mul, add-mul, mul-le-mul-right, not-suc-le-zero}
-use mathlib.Core.List.{List, [], _∷_, _++_, append-assoc, append-nil}
+use native.Mathlib.Nat.{add-mul, mul-le-mul-right, not-suc-le-zero}
+use mathlib.Core.List.{List, [], _∷_, _++_, append-nil}
 use mathlib.Core.Bool.{Bool, true, false, cond}
 use lib.Dec.{ltb}
 use lib.ListN.{length, getD, take, drop}
-use lib.Seq.{paste, take-take, getD-take, getD-drop, drop-drop}
+use lib.Seq.{paste, getD-take, getD-drop, drop-drop}
 use borrow.Author.Tests.{ltb-true, ltb-false}
 use Rattle.model.specs.Lists.{sum, total}
 use Rattle.model.specs.Cut.{Cut, empty, insideAny}
@@ -20,38 +19,22 @@ use Rattle.structure.specs.Layout.{decoded, structureAt, standing, barsAt, plac
 use Rattle.structure.specs.Laid.{Laid}
 use Rattle.rounds.specs.Pair.{Starts, Intersected}
 use Rattle.rounds.proofs.FromLaid.{laid-starts}
-use Rattle.steps.proofs.Parts.{paste-part}
-use Rattle.steps.proofs.Built.{decoded-none, decoded-some}
-use Rattle.structure.proofs.Standing.{drop-take, cell-kept, structure-same, standing-same, standing-add}
+use Rattle.lattice.proofs.Sums.{sum-snoc}
+use Rattle.structure.proofs.Parts.{front-same, part-same, cell-same, paste-part}
+use Rattle.structure.proofs.Rows.{decoded-none, decoded-some}
+use Rattle.structure.proofs.Places.{one-more, cells-are, next-fits}
+use Rattle.structure.proofs.Standing.{structure-same, standing-same, standing-add}
+use Rattle.modal.proofs.Laws.{each-append}
 use Rattle.pairs.specs.Post.{structureOf, standingFrom, BarsJoined, Put, Paired}
 
--- FRONTS
-
-short : (x y : ℕ) (v w : List ℕ) → x ≤ y → take y v ≡ take y w → take x v ≡ take x w
-short x y v w h e = sym (take-take x y v h) ∙ ap (take x) e ∙ take-take x y w h
-
-part : (x y : ℕ) (v w : List ℕ) → take (x + y) v ≡ take (x + y) w → take y (drop x v) ≡ take y (drop x w)
-part x y v w e = sym (drop-take x y v) ∙ ap (drop x) e ∙ drop-take x y w
-
 -- LISTS
-
-each-append : (f : Structure → List Structure) (L M : List Structure) → each f (L ++ M) ≡ each f L ++ each f M
-unfolding each
-each-append f [] M = refl
-each-append f (S ∷ L) M = ap (λ (l : List Structure). f S ++ l) (each-append f L M) ∙ sym (append-assoc (f S) (each f L) (each f M))
-
-sum-append : (f : Structure → ℕ) (L M : List Structure) → sum f (L ++ M) ≡ sum f L + sum f M
-unfolding sum
-sum-append f [] M = omega arith
-sum-append f (S ∷ L) M = let h = sum-append f L M in omega arith
 
 each-one : (f : Structure → List Structure) (L : List Structure) (S : Structure) → each f L ++ f S ≡ each f (L ++ (S ∷ []))
 unfolding each
 each-one f L S = sym (each-append f L (S ∷ []) ∙ ap (λ (l : List Structure). each f L ++ l) (append-nil (f S)))
 
 sum-one : (f : Structure → ℕ) (L : List Structure) (S : Structure) → sum f L + f S ≡ sum f (L ++ (S ∷ []))
-unfolding sum
-sum-one f L S = let h = sum-append f L (S ∷ []) in omega arith
+sum-one f L S = sym (sum-snoc f L S)
 
 -- WHAT STANDS BEFORE A PLACE
 
@@ -64,7 +47,7 @@ module _ (n e : ℕ) (counts starts : List ℕ) where
 
   module _ (K : Computation) (offs values : List ℕ) (laid : Laid K n e counts offs starts values) where
     pub cells-is : suc (total (full K)) * n ≡ size
-    cells-is = ap (λ (y : ℕ). suc y * n) (laid .counted) ∙ ap (λ (y : ℕ). y * n) (sym (add-one e))
+    cells-is = cells-are n e (full K) (laid .counted)
 
     -- k structures and one more.
     snoc : (k : ℕ) (w b : List ℕ) → standing n (full K) (k + 1) w b ≡ standing n (full K) k w b ++ (structureOf n e K w b k ∷ [])
@@ -81,17 +64,17 @@ module _ (n e : ℕ) (counts starts : List ℕ) where
       from-kept l r h =
           standing-same n (full K) r (drop (l * size) w) (drop (l * size) v) (drop (l * slot) b) (drop (l * slot) d) (laid .some-station)
           (ap (λ (x : ℕ). take (r * x) (drop (l * size) w)) cells-is
-          ∙ part (l * size) (r * size) w v (short (l * size + r * size) (o * size) w v (omega (arith, mul-le-mul-right size h, add-mul l r size)) ew)
+          ∙ part-same (o * size) w v ew (l * size) (r * size) (omega (arith, mul-le-mul-right size h, add-mul l r size))
           ∙ ap (λ (x : ℕ). take (r * x) (drop (l * size) v)) (sym cells-is))
-          (part (l * slot) (r * slot) b d (short (l * slot + r * slot) (o * slot) b d (omega (arith, mul-le-mul-right slot h, add-mul l r slot)) eb))
+          (part-same (o * slot) b d eb (l * slot) (r * slot) (omega (arith, mul-le-mul-right slot h, add-mul l r slot)))
 
       structure-kept : (i : ℕ) → i < o → structureOf n e K w b i ≡ structureOf n e K v d i
       structure-kept i h =
           structure-same n (full K) (drop (i * size) w) (drop (i * size) v) (drop (i * slot) b) (drop (i * slot) d) (laid .some-station)
           (ap (λ (x : ℕ). take x (drop (i * size) w)) cells-is
-          ∙ part (i * size) size w v (short (i * size + size) (o * size) w v (omega (arith, mul-le-mul-right size h, suc-mul i size)) ew)
+          ∙ part-same (o * size) w v ew (i * size) size (next-fits i o size h)
           ∙ ap (λ (x : ℕ). take x (drop (i * size) v)) (sym cells-is))
-          (part (i * slot) slot b d (short (i * slot + slot) (o * slot) b d (omega (arith, mul-le-mul-right slot h, suc-mul i slot)) eb))
+          (part-same (o * slot) b d eb (i * slot) slot (next-fits i o slot h))
 
   -- ONE BEHIND THE OTHER
 
@@ -113,13 +96,13 @@ module _ (n e : ℕ) (counts starts : List ℕ) where
     put-least j h f = go (ltb j k) refl
       where
         p : 0 < size
-        p = omega (arith, ap (λ (x : ℕ). x * n) (add-one e) ∙ suc-mul e n)
+        p = omega (arith, one-more e n)
 
         go : (t : Bool) → ltb j k ≡ t → ⊥
         go true q =
             let a : suc (o + j) ≤ o + k = omega (arith, ltb-true j k q) in
-            let c : (o + j) * size < (o + k) * size = omega (arith, mul-le-mul-right size a, suc-mul (o + j) size, p) in
-            first .least j (ltb-true j k q) (sym (cell-kept ((o + j) * size) ((o + k) * size) w₂ w₁ c (second .cells-kept)) ∙ f)
+            let c : (o + j) * size < (o + k) * size = omega (arith, next-fits (o + j) (o + k) size a, p) in
+            first .least j (ltb-true j k q) (sym (cell-same ((o + k) * size) w₂ w₁ (second .cells-kept) ((o + j) * size) c) ∙ f)
         go false q =
             let a : o + k + (j - k) ≡ o + j = omega (arith, ltb-false j k q) in
             second .least (j - k) (omega (arith, ltb-false j k q)) (ap (λ (x : ℕ). getD w₂ (x * size) 0) a ∙ f)
@@ -136,8 +119,8 @@ module _ (n e : ℕ) (counts starts : List ℕ) where
           standing-add n (full K) k m (drop (o * size) w₂) (drop (o * slot) b₂)
           ∙ ap₂ (λ (l r : List Structure). l ++ r) old (ap₂ (standing n (full K) m) dw db ∙ second .stands K offs values laid) ∙ both K offs values laid;
       summed = λ K offs values laid. ap₂ (λ (u v : ℕ). u + v) (first .summed K offs values laid) (second .summed K offs values laid) ∙ adds K offs values laid;
-      cells-kept = short (o * size) ((o + k) * size) w₂ w₁ (omega (arith, add-mul o k size)) (second .cells-kept) ∙ first .cells-kept;
-      bars-kept = short (o * slot) ((o + k) * slot) b₂ b₁ (omega (arith, add-mul o k slot)) (second .bars-kept) ∙ first .bars-kept;
+      cells-kept = front-same ((o + k) * size) w₂ w₁ (second .cells-kept) (o * size) (omega (arith, add-mul o k size)) ∙ first .cells-kept;
+      bars-kept = front-same ((o + k) * slot) b₂ b₁ (second .bars-kept) (o * slot) (omega (arith, add-mul o k slot)) ∙ first .bars-kept;
       least = put-least;
     }
 
@@ -281,8 +264,8 @@ module _ (n e : ℕ) (counts starts : List ℕ) where
             ∙ p .stands K offs values laid;
         summed = λ K offs values laid. p .summed K offs values laid;
         least = λ j h f.
-            let q : 0 < size = omega (arith, ap (λ (x : ℕ). x * n) (add-one e) ∙ suc-mul e n) in
-            let k : j * size < c * size = omega (arith, mul-le-mul-right size h, suc-mul j size) in
-            p .least j h (ap (λ (x : ℕ). getD w₁ x 0) (add-mul o j size) ∙ sym (getD-drop (o * size) w₁ (j * size) 0) ∙ sym (cell-kept (j * size) (c * size) w₂ (drop (o * size) w₁) k ew) ∙ f);
+            let q : 0 < size = omega (arith, one-more e n) in
+            let k : j * size < c * size = omega (arith, next-fits j c size h) in
+            p .least j h (ap (λ (x : ℕ). getD w₁ x 0) (add-mul o j size) ∙ sym (getD-drop (o * size) w₁ (j * size) 0) ∙ sym (cell-same (c * size) w₂ (drop (o * size) w₁) ew (j * size) k) ∙ f);
         small = small;
       }

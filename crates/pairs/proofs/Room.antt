@@ -2,40 +2,33 @@
 use mathlib.Core.Path.{_≡_, sym, ap, subst, _∙_}
 use Prim.Native.Nat.{ℕ, _+_, _*_, _≤_, _<_}
 use native.Mathlib.Omega.{arith}
-use native.Mathlib.Numerals.{add-one}
 use native.Mathlib.Nat.{suc-mul, add-mul, mul-le-mul, mul-le-mul-right}
 use mathlib.Core.List.{List}
 use lib.ListN.{length, getD, take, drop}
-use lib.Seq.{take-take}
 use Rattle.model.specs.Computation.{Computation}
 use Rattle.model.specs.Structure.{Structure}
 use Rattle.structure.specs.Layout.{barsAt}
-use Rattle.structure.proofs.Standing.{drop-take, cell-kept, bars-same}
+use Rattle.structure.proofs.Parts.{part-same, cell-same}
+use Rattle.structure.proofs.Places.{one-more, next-fits}
+use Rattle.structure.proofs.Standing.{bars-same}
 use Rattle.pairs.specs.Post.{Put, OneReady, RowReady, PairsReady}
 use Rattle.pairs.proofs.Putting.{rowX, rowY, allX, allY}
-
-pub plus-one : (o s : ℕ) → (o + 1) * s ≡ o * s + s
-plus-one o s = ap (λ (x : ℕ). x * s) (add-one o) ∙ suc-mul o s
 
 pub square-small : (e : ℕ) → e ≤ 127 → (e + 1) * (e + 1) ≤ 16384
 square-small e h = mul-le-mul {n₁ = e + 1} {m₁ = e + 1} {n₂ = 128} {m₂ = 128} (omega arith) (omega arith)
 
 size-pos : (e n : ℕ) → 0 < n → 0 < (e + 1) * n
-size-pos e n h = omega (arith, plus-one e n)
+size-pos e n h = omega (arith, one-more e n)
 
 -- What stands before structure o, where that has been kept.
 module _ (n e o : ℕ) (z : 0 < n) (w v b d : List ℕ) (ew : take (o * ((e + 1) * n)) w ≡ take (o * ((e + 1) * n)) v) (eb : take (o * (16 * n)) b ≡ take (o * (16 * n)) d) where
   pub least-kept : (i : ℕ) → i < o → (getD v (i * ((e + 1) * n)) 0 ≡ 255 → ⊥) → getD w (i * ((e + 1) * n)) 0 ≡ 255 → ⊥
   least-kept i h f g =
-      let k : i * ((e + 1) * n) < o * ((e + 1) * n) = omega (arith, mul-le-mul-right ((e + 1) * n) h, suc-mul i ((e + 1) * n), size-pos e n z) in
-      f (sym (cell-kept (i * ((e + 1) * n)) (o * ((e + 1) * n)) w v k ew) ∙ g)
+      f (sym (cell-same (o * ((e + 1) * n)) w v ew (i * ((e + 1) * n)) (omega (arith, next-fits i o ((e + 1) * n) h, size-pos e n z))) ∙ g)
 
   pub bars-kept : (i : ℕ) → i < o → barsAt n 16 (drop (i * (16 * n)) b) ≡ barsAt n 16 (drop (i * (16 * n)) d)
   bars-kept i h =
-      let k : i * (16 * n) + 16 * n ≤ o * (16 * n) = omega (arith, mul-le-mul-right (16 * n) h, suc-mul i (16 * n)) in
-      let s : take (i * (16 * n) + 16 * n) b ≡ take (i * (16 * n) + 16 * n) d =
-      sym (take-take (i * (16 * n) + 16 * n) (o * (16 * n)) b k) ∙ ap (take (i * (16 * n) + 16 * n)) eb ∙ take-take (i * (16 * n) + 16 * n) (o * (16 * n)) d k in
-      bars-same n 16 (drop (i * (16 * n)) b) (drop (i * (16 * n)) d) z (sym (drop-take (i * (16 * n)) (16 * n) b) ∙ ap (drop (i * (16 * n))) s ∙ drop-take (i * (16 * n)) (16 * n) d)
+      bars-same n 16 (drop (i * (16 * n)) b) (drop (i * (16 * n)) d) z (part-same (o * (16 * n)) b d eb (i * (16 * n)) (16 * n) (next-fits i o (16 * n) h))
 
 pub one-ready : (n e i l r o c j : ℕ) (counts starts w₀ w b₀ b : List ℕ) (X : Computation → List Structure) (Y : Computation → ℕ) (s : ℕ) → 0 < n
     → RowReady n e i l r o starts w₀ b₀ → Put n e o c counts starts w₀ w b₀ b X Y s → length w ≡ length w₀ → length b ≡ length b₀ → j < r → c ≤ j
@@ -94,14 +87,14 @@ row-rounds s j v h k = omega arith
 
 pub all-rounds : (s i r v : ℕ) → s ≤ i * r * 16384 → v ≤ r * 16384 → s + v ≤ (i + 1) * r * 16384
 all-rounds s i r v h k =
-    let q : (i + 1) * r ≡ i * r + r = plus-one i r in
+    let q : (i + 1) * r ≡ i * r + r = one-more i r in
     omega (arith, ap (λ (x : ℕ). x * 16384) q, add-mul (i * r) r 16384)
 
 pub all-counts : (c i r v : ℕ) → c ≤ i * r → v ≤ r → c + v ≤ (i + 1) * r
-all-counts c i r v h k = omega (arith, plus-one i r)
+all-counts c i r v h k = omega (arith, one-more i r)
 
 pub rows-small : (i l r : ℕ) → i < l → l * r ≤ 16 → (i + 1) * r ≤ 16
-rows-small i l r h k = omega (arith, mul-le-mul-right r h, suc-mul i r, plus-one i r)
+rows-small i l r h k = omega (arith, mul-le-mul-right r h, suc-mul i r, one-more i r)
 
 pub rounds-fit : (s x : ℕ) → s ≤ x * 16384 → x ≤ 16 → s ≤ 262144
 rounds-fit s x h k = omega arith

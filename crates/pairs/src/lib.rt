@@ -1,9 +1,7 @@
 // The step for "and": the pairs of two bases that stand one behind the other.
 ghost use mathlib.Core.Path.{_≡_};
-ghost use mathlib.Core.Logic.{_⊎_};
 ghost use Prim.Native.Nat.{_+_, _*_, _≤_, _<_};
 ghost use lib.ListN.{length, take, drop};
-ghost use lib.Seq.{paste};
 ghost use Rattle.model.specs.Lists.{total, sum};
 ghost use Rattle.model.specs.Basis.{intersect, each};
 ghost use Rattle.model.specs.Rounds.{roundsOfPair};
@@ -15,18 +13,6 @@ ghost use Rattle.pairs.specs.Post.{structureOf, standingFrom, BarsJoined
 pub struct Pairs {
     pub count: usize,
     pub rounds: u32,
-}
-
-// The len cells from `from` on, copied to `to`.
-pub fn shift(ws: &mut [u8], from: usize, to: usize, len: usize)
-    requires { ⌜ (from + len ≤ length (now ws)) × (to + len ≤ length (now ws)) × ((from + len ≤ to) ⊎ (to ≤ from)) ⌝ }
-    ensures { λ _. ⌜ now (ws .exit) ≡ paste (now (ws .entry)) to (drop from (now (ws .entry))) len ⌝ }
-{
-    let mut i = 0;
-    while i < len {
-        ws[to + i] = ws[from + i];
-        i += 1;
-    }
 }
 
 // The number of bars at a place.
@@ -51,8 +37,8 @@ pub fn join_bars(bs: &mut [u8], i: usize, j: usize, o: usize, n: usize)
 {
     let k = count_bars(bs, i, n);
     let m = count_bars(bs, j, n);
-    shift(bs, i, o, k * n);
-    shift(bs, j, o + k * n, m * n);
+    structure::shift(bs, i, o, k * n);
+    structure::shift(bs, j, o + k * n, m * n);
     steps::end_bars(bs, o, k + m, n);
 }
 
@@ -166,8 +152,8 @@ pub fn pair_all(
     }
     let size = (e + 1) * n;
     let slot = 16 * n;
-    shift(ws, o * size, 0, c * size);
-    shift(bs, o * slot, 0, c * slot);
+    structure::shift(ws, o * size, 0, c * size);
+    structure::shift(bs, o * slot, 0, c * slot);
     Pairs {
         count: c,
         rounds: rounds,

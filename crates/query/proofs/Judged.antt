@@ -12,11 +12,12 @@ use Rattle.model.specs.Formula.{Formula, ahead, single, formulaOf, tokens, atom
 use Rattle.model.specs.Size.{narrow, fits}
 use Rattle.model.specs.Rules.{asTrue}
 use Rattle.codec.proofs.Cases.{none-some}
+use Rattle.codec.specs.Formulas.{formulas}
 use Rattle.codec.proofs.Formulas.{formulas-none, formulas-formula, length-formula}
 use Rattle.query.specs.declared.Extent.the-variants.{Wide, Narrow}
 use Rattle.query.specs.declared.Size.{Size}
 use Rattle.query.specs.Judged.{judged}
-use Rattle.query.specs.Measured.{formulas, first, under, Sized}
+use Rattle.query.specs.Measured.{first, Sized}
 use Rattle.query.proofs.Extents.{narrow-of, wide-of}
 
 -- NOT EXACTLY ONE FORMULA
@@ -71,10 +72,8 @@ module _ {n : ℕ} {q : List ℕ} {z : Size} (x : Sized n true q z) where
       judged-atoms t a = sym (by-size ∙ simp (le-leb _ _ t, lt-leb _ _ a))
 
       pub judged-wide : z .tokens ≤ 32 → z .atoms ≤ 12 → z .extent ≡ Wide → some 9 ≡ judged n (formulaOf q)
-      unfolding under
       judged-wide t a w = sym (by-size ∙ simp (le-leb _ _ t, le-leb _ _ a, wide-of (asTrue (x .formula)) (sym w ∙ x .extent)))
 
       pub judged-fine : (w b : ℕ) → z .tokens ≤ 32 → z .atoms ≤ 12 → z .extent ≡ Narrow w b → none ≡ judged n (formulaOf q)
-      unfolding under
       judged-fine w b t a e =
           sym (by-size ∙ simp (le-leb _ _ t, le-leb _ _ a, narrow-of (asTrue (x .formula)) w b (sym e ∙ x .extent) .narrow))

@@ -12,19 +12,22 @@ use lib.Seq.{drop-drop, getD-drop}
 use borrow.Author.Tests.{le-leb, lt-leb, eqb-true, eqb-false, ne-eqb}
 use Rattle.model.specs.Frames.{word}
 use Rattle.model.specs.Formula.{Formula, ahead, one, two, sign, token, weigh, tokens, atoms, sound}
-use Rattle.model.specs.Formula.Formula.{inRange, not, and, or, possibly, always}
+use Rattle.model.specs.Formula.Formula.{inRange, not, and}
 use Rattle.model.specs.Rules.{Normal, asTrue, asFalse}
 use Rattle.model.specs.Size.{width, bars, slim, narrow}
-use Rattle.codec.proofs.Formulas.{formulas-none, formulas-token}
+use Rattle.lattice.specs.Signed.{normal, two as joining, modal, joinedForm, liftedForm}
+use Rattle.lattice.proofs.Signed.{normal-not, normal-two, normal-modal, weigh-two, weigh-modal, sound-two, sound-modal}
+use Rattle.codec.specs.Formulas.{formulas}
+use Rattle.codec.proofs.Formulas.{formulas-none, formulas-token, one-ahead, two-ahead}
 use Rattle.query.specs.declared.Extent.{Extent}
 use Rattle.query.specs.declared.Extent.the-variants.{Narrow}
 use Rattle.query.specs.declared.Size.{Size}
 use Rattle.query.specs.declared.Front.{Front}
 use Rattle.query.specs.declared.Front.the-variants.{Nothing, Formula as One}
-use Rattle.query.specs.Extents.{extentOf, joined, lifted}
-use Rattle.query.specs.Measured.{formulas, first, under, Sized, Measured, Short, Brief, Longer, Together}
+use Rattle.query.specs.Extents.{extentOf}
+use Rattle.query.specs.Measured.{first, Sized, Measured, Short, Brief, Longer, Together}
 use Rattle.query.proofs.Extents.{extent-small}
-use Rattle.query.proofs.Formulas.{one-ahead, two-ahead, one-first, two-first, two-second}
+use Rattle.query.proofs.Formulas.{one-first, two-first, two-second}
 
 -- TOKENS
 
@@ -32,16 +35,6 @@ use Rattle.query.proofs.Formulas.{one-ahead, two-ahead, one-first, two-
 pub token-rest : (q r : List ℕ) → (length q ≡ 0 → ⊥) → r ≡ drop 1 q → q ≡ getD q 0 0 ∷ r
 token-rest [] r h e = absurd (h refl)
 token-rest (t ∷ q) r h e = ap (λ (l : List ℕ). t ∷ l) (sym e)
-
--- "and", or "or".
-abbrev joining : Bool → Formula → Formula → Formula
-joining true = and
-joining false = or
-
--- Possibly, or always.
-abbrev modal : Bool → Formula → Formula
-modal true = possibly
-modal false = always
 
 sign-two : (t : ℕ) (o : Option (List Formula)) → 2 < t → t < 5 → sign t o ≡ two (joining (eqb t 3)) o
 unfolding sign
@@ -61,27 +54,8 @@ sign-modal t o h l = go (eqb t 5) refl
 
 -- THE RULES UNDER A SIGN
 
-under-not : (s : Bool) (f : Formula) → under (negated s) f ≡ under s (not f)
-unfolding under asTrue asFalse
-under-not true f = refl
-under-not false f = refl
-
-under-modal : (b s : Bool) (f : Formula) → lifted (Bool·beq b s) (under b f) ≡ under s (modal b f)
-unfolding lifted under asTrue asFalse
-under-modal true true f = refl
-under-modal true false f = refl
-under-modal false true f = refl
-under-modal false false f = refl
-
-under-joining : (b s : Bool) (f g : Formula) → joined (Bool·beq b s) (under s f) (under s g) ≡ under s (joining b f g)
-unfolding joined under asTrue asFalse
-under-joining true true f g = refl
-under-joining true false f g = refl
-under-joining false true f g = refl
-under-joining false false f g = refl
-
-extent-range : (s : Bool) (a lo hi : ℕ) → Narrow 1 0 ≡ extentOf (under s (inRange a lo hi))
-unfolding extentOf under asTrue asFalse narrow slim width bars
+extent-range : (s : Bool) (a lo hi : ℕ) → Narrow 1 0 ≡ extentOf (normal s (inRange a lo hi))
+unfolding extentOf asTrue asFalse narrow slim width bars
 extent-range true a lo hi = refl
 extent-range false a lo hi = refl
 
@@ -98,19 +72,7 @@ unfolding weigh sound
 unary-not n = record { more = λ f. refl; same = λ f. refl; order = λ f. refl }
 
 unary-modal : (n : ℕ) (b : Bool) → Unary n (modal b)
-unfolding weigh sound
-unary-modal n true = record { more = λ f. refl; same = λ f. refl; order = λ f. refl }
-unary-modal n false = record { more = λ f. refl; same = λ f. refl; order = λ f. refl }
-
-weigh-joining : (a u k : ℕ) (b : Bool) (f g : Formula) → weigh a u k (joining b f g) ≡ k + weigh a u k f + weigh a u k g
-unfolding weigh
-weigh-joining a u k true f g = refl
-weigh-joining a u k false f g = refl
-
-sound-joining : (n : ℕ) (b : Bool) (f g : Formula) → sound n (joining b f g) ≡ (sound n f && sound n g)
-unfolding sound
-sound-joining n true f g = refl
-sound-joining n false f g = refl
+unary-modal n b = record { more = weigh-modal 1 1 1 b; same = weigh-modal 1 0 0 b; order = sound-modal n b }
 
 -- WHAT A SIZE TELLS
 
@@ -120,7 +82,7 @@ sized-short {s = s} h x =
       used = omega arith;
       tokens = omega arith;
       atoms = omega arith;
-      extent = rw (x .extent) (extent-small (under s (x .formula)));
+      extent = rw (x .extent) (extent-small (normal s (x .formula)));
     }
 
 pub measured-brief : (n : ℕ) (s : Bool) (q : List ℕ) (p : Front) → length q ≤ 99 → Measured n s q p → Brief p
@@ -182,7 +144,7 @@ sized-one :
     → Unary n c
     → formulas (t ∷ q) ≡ one c (formulas q)
     → (x : Sized n o q z)
-    → i ≡ extentOf (under s (c (x .formula)))
+    → i ≡ extentOf (normal s (c (x .formula)))
     → Longer z i r
     → Sized n s (t ∷ q) r
 sized-one {t = t} {q = q} {z = z} {r = r} c u k x i l =
@@ -206,7 +168,7 @@ pub nothing-not : (q : List ℕ) → first (formulas q) ≡ none → first (form
 nothing-not q p = ap first (spelt-not q) ∙ one-first not (formulas q) p
 
 pub sized-not : {n : ℕ} {s : Bool} {q : List ℕ} {z r : Size} → Sized n (negated s) q z → Longer z (z .extent) r → Sized n s (2 ∷ q) r
-sized-not {n} {s} {q} x l = sized-one not (unary-not n) (spelt-not q) x (x .extent ∙ ap extentOf (under-not s (x .formula))) l
+sized-not {n} {s} {q} x l = sized-one not (unary-not n) (spelt-not q) x (x .extent ∙ ap extentOf (sym (normal-not s (x .formula)))) l
 
 module _ (t : ℕ) (h : 4 < t) (l : t < 7) (q : List ℕ) where
   spelt-modal : formulas (t ∷ q) ≡ one (modal (eqb t 5)) (formulas q)
@@ -218,12 +180,12 @@ module _ (t : ℕ) (h : 4 < t) (l : t < 7) (q : List ℕ) where
   pub sized-modal :
       {n : ℕ} {s : Bool} {z r : Size} {i : Extent}
       → Sized n (eqb t 5) q z
-      → ((p : Normal) → z .extent ≡ extentOf p → i ≡ extentOf (lifted (Bool·beq (eqb t 5) s) p))
+      → ((p : Normal) → z .extent ≡ extentOf p → i ≡ extentOf (liftedForm (Bool·beq (eqb t 5) s) p))
       → Longer z i r
       → Sized n s (t ∷ q) r
   sized-modal {n} {s} x i k =
       sized-one (modal (eqb t 5)) (unary-modal n (eqb t 5)) spelt-modal x
-      (i (under (eqb t 5) (x .formula)) (x .extent) ∙ ap extentOf (under-modal (eqb t 5) s (x .formula))) k
+      (i (normal (eqb t 5) (x .formula)) (x .extent) ∙ ap extentOf (sym (normal-modal s (eqb t 5) (x .formula)))) k
 
 -- TWO OPERANDS
 
@@ -242,7 +204,7 @@ module _ (t : ℕ) (h : 2 < t) (l : t < 5) (q : List ℕ) where
     pub sized-two :
         {z r : Size} {i : Extent}
         → Sized n s (drop (y .used) q) z
-        → ((p o : Normal) → y .extent ≡ extentOf p → z .extent ≡ extentOf o → i ≡ extentOf (joined (Bool·beq (eqb t 3) s) p o))
+        → ((p o : Normal) → y .extent ≡ extentOf p → z .extent ≡ extentOf o → i ≡ extentOf (joinedForm (Bool·beq (eqb t 3) s) p o))
         → Together y z i r
         → Sized n s (t ∷ q) r
     sized-two {z} {r} w i k =
@@ -259,8 +221,8 @@ module _ (t : ℕ) (h : 2 < t) (l : t < 5) (q : List ℕ) where
               ∙ ap (λ (p : List ℕ). ahead (joining b f g) (formulas p)) (sym d);
           within = omega (arith, length-drop (y .used) q);
           bytes = omega arith;
-          tokens = omega (arith, weigh-joining 1 1 1 b f g);
-          atoms = omega (arith, weigh-joining 1 0 0 b f g);
-          ordered = k .ordered ∙ ap₂ _&&_ (x .ordered) (w .ordered) ∙ sym (sound-joining n b f g);
-          extent = k .extent ∙ i (under s f) (under s g) (x .extent) (w .extent) ∙ ap extentOf (under-joining b s f g);
+          tokens = omega (arith, weigh-two 1 1 1 b f g);
+          atoms = omega (arith, weigh-two 1 0 0 b f g);
+          ordered = k .ordered ∙ ap₂ _&&_ (x .ordered) (w .ordered) ∙ sym (sound-two n b f g);
+          extent = k .extent ∙ i (normal s f) (normal s g) (x .extent) (w .extent) ∙ ap extentOf (sym (normal-two s b f g));
         }

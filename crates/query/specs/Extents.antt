@@ -1,9 +1,8 @@
 -- Width and bar count of a formula in negation normal form, while both are within their limit at every token.
 use Prim.Native.Nat.{ℕ, _≤_}
-use mathlib.Core.Bool.{Bool, true, false, cond, _&&_}
+use mathlib.Core.Bool.{cond, _&&_}
 use lib.Dec.{leb}
 use Rattle.model.specs.Rules.{Normal}
-use Rattle.model.specs.Rules.Normal.{both, either, possible, impossible}
 use Rattle.model.specs.Size.{width, bars, narrow}
 use Rattle.query.specs.declared.Extent.{Extent}
 use Rattle.query.specs.declared.Extent.the-variants.{Wide, Narrow}
@@ -14,16 +13,6 @@ extentOf p = cond (narrow p) (Narrow (width p) (bars p)) Wide
 -- A width and a bar count, if both are at most 16.
 unfoldable pub bounded : ℕ → ℕ → Extent
 bounded w b = cond (leb w 16 && leb b 16) (Narrow w b) Wide
-
--- "and", or "or".
-unfoldable pub joined : Bool → Normal → Normal → Normal
-joined true = both
-joined false = either
-
--- Possibly, or not possibly.
-unfoldable pub lifted : Bool → Normal → Normal
-lifted true = possible
-lifted false = impossible
 
 -- Numbers that can be multiplied and added.
 abbrev pub Small : Extent → Type 0

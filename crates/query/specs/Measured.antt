@@ -1,32 +1,24 @@
 -- What is said of the front of some bytes: that no formula stands there, or the size of the one that does.
-use Prim.Native.Nat.{ℕ, suc, _+_, _*_, _≤_}
+use Prim.Native.Nat.{ℕ, _+_, _*_, _≤_}
 use mathlib.Core.Path.{_≡_}
-use mathlib.Core.Bool.{Bool, true, false, _&&_}
+use mathlib.Core.Bool.{Bool, _&&_}
 use mathlib.Core.List.{List, [], _∷_}
 use mathlib.Core.Option.{Option, none, some}
 use lib.ListN.{length, drop}
 use Rattle.model.specs.Formula as model
-use Rattle.model.specs.Formula.{ahead, formulasIn, sound}
-use Rattle.model.specs.Rules.{Normal, asTrue, asFalse}
+use Rattle.model.specs.Formula.{ahead, sound}
+use Rattle.lattice.specs.Signed.{normal}
+use Rattle.codec.specs.Formulas.{formulas}
 use Rattle.query.specs.declared.Extent.{Extent}
 use Rattle.query.specs.declared.Size.{Size}
 use Rattle.query.specs.declared.Front.{Front}
 use Rattle.query.specs.declared.Front.the-variants.{Nothing, Formula}
 use Rattle.query.specs.Extents.{extentOf, Small}
 
--- The formulas that bytes spell.
-abbrev pub formulas : List ℕ → Option (List model.Formula)
-formulas q = formulasIn (suc (length q)) q
-
 unfoldable pub first : Option (List model.Formula) → Option model.Formula
 first none = none
 first (some []) = none
 first (some (f ∷ l)) = some f
-
--- A formula, or its negation.
-unfoldable pub under : Bool → model.Formula → Normal
-under true = asTrue
-under false = asFalse
 
 -- A formula stands at the front of q, and z is its size under the sign s.
 pub record Sized (n : ℕ) (s : Bool) (q : List ℕ) (z : Size) : Type 0 where
@@ -37,7 +29,7 @@ pub record Sized (n : ℕ) (s : Bool) (q : List ℕ) (z : Size) : Type 0 where
   pub tokens : z .tokens ≡ model.tokens formula
   pub atoms : z .atoms ≡ model.atoms formula
   pub ordered : z .sound ≡ sound n formula
-  pub extent : z .extent ≡ extentOf (under s formula)
+  pub extent : z .extent ≡ extentOf (normal s formula)
 
 abbrev pub Measured : ℕ → Bool → List ℕ → Front → Type 0
 Measured n s q Nothing = first (formulas q) ≡ none

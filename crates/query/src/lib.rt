@@ -7,8 +7,9 @@ ghost use lib.ListN.{length, drop};
 ghost use lib.Dec.{eqb};
 ghost use Rattle.model.specs.Formula.{formulaOf};
 ghost use Rattle.model.specs.Rules.{Normal};
+ghost use Rattle.lattice.specs.Signed.{joinedForm, liftedForm};
 ghost use Rattle.query.specs.Judged.{judged, faultOf};
-ghost use Rattle.query.specs.Extents.{extentOf, bounded, joined, lifted, Small};
+ghost use Rattle.query.specs.Extents.{extentOf, bounded, Small};
 ghost use Rattle.query.specs.Measured.{Measured, Sized, Short, Brief, Longer, Together};
 
 // What is said of a question.
@@ -85,7 +86,7 @@ fn limit(w: usize, b: usize) -> Extent
 // "and" multiplies widths and adds bars, "or" adds widths and keeps the larger bar count.
 fn join(a: Extent, b: Extent, pair: bool) -> Extent
     requires { ⌜ Small a × Small b ⌝ }
-    ensures { λ r. ⌜ ((p q : Normal) → a ≡ extentOf p → b ≡ extentOf q → r ≡ extentOf (joined pair p q)) ⌝ }
+    ensures { λ r. ⌜ ((p q : Normal) → a ≡ extentOf p → b ≡ extentOf q → r ≡ extentOf (joinedForm pair p q)) ⌝ }
 {
     let Extent::Narrow(w, x) = a else {
         return Extent::Wide;
@@ -102,7 +103,7 @@ fn join(a: Extent, b: Extent, pair: bool) -> Extent
 
 // Possibly keeps the width and has no bars, not possibly has one structure with a bar for each of the operand's.
 fn lift(a: Extent, keep: bool) -> Extent
-    ensures { λ r. ⌜ ((p : Normal) → a ≡ extentOf p → r ≡ extentOf (lifted keep p)) ⌝ }
+    ensures { λ r. ⌜ ((p : Normal) → a ≡ extentOf p → r ≡ extentOf (liftedForm keep p)) ⌝ }
 {
     let Extent::Narrow(w, x) = a else {
         return Extent::Wide;

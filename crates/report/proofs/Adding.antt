@@ -10,8 +10,11 @@ use lib.Seq.{drop-drop, append-snoc, paste}
 use borrow.Author.Tests.{not-true, not-false}
 use Rattle.model.specs.Cut.{Cut, inside, insideAny}
 use Rattle.model.specs.Answer.{notInside, precedes, insert}
-use Rattle.report.specs.Cuts.{cutsAt, added}
-use Rattle.report.proofs.Cuts.{cuts-all, cuts-from, cuts-more, cuts-none, cuts-put, paste-behind}
+use Rattle.structure.specs.Layout.{cutsAt}
+use Rattle.structure.proofs.Parts.{paste-behind}
+use Rattle.structure.proofs.Listed.{cuts-more}
+use Rattle.report.specs.Cuts.{added}
+use Rattle.report.proofs.Cuts.{cuts-all, cuts-from, cuts-none, cuts-put}
 
 notInside-snoc : (c d : Cut) (l : List Cut) → notInside c (l ++ (d ∷ [])) ≡ cond (inside d c) (notInside c l) (notInside c l ++ (d ∷ []))
 unfolding notInside
@@ -89,7 +92,7 @@ module _
         let s = drop (i * n) v in
         let k : left * n ≤ i * n = mul-le-mul-right n h in
         let f : n ≤ length s = rw length-drop (omega arith) in (
-          ap (drop ((i + 1) * n)) p ∙ paste-behind v s (left * n) n (omega arith) f ((i + 1) * n) (omega (arith, add-mul i 1 n)) ∙ next-rest,
+          ap (drop ((i + 1) * n)) p ∙ paste-behind v (left * n) s n (omega arith) f ((i + 1) * n) (omega (arith, add-mul i 1 n)) ∙ next-rest,
           ap₂ (λ (j : ℕ) (t : List ℕ). cutsAt n j t) q p ∙ cuts-put v s n left (omega arith) f ∙ sym (next ∙ rw (← e, not-true b t)),
         )
 

@@ -11,9 +11,10 @@ use Rattle.model.specs.Bytes.{line}
 use Rattle.model.specs.Answer.{yesNo, fourBytes, answerLine}
 use Rattle.wire.specs.Put.{putOf}
 use Rattle.wire.proofs.Puts.{take-put, put-front}
-use Rattle.report.specs.Cuts.{cutsAt}
+use Rattle.structure.specs.Layout.{cutsAt}
 use Rattle.report.specs.Written.{Written}
-use Rattle.report.proofs.Cuts.{length-cuts, row-cuts}
+use Rattle.structure.proofs.Listed.{length-cuts}
+use Rattle.report.proofs.Cuts.{row-cuts}
 
 -- Four stores in a row.
 pub four-stores : (d : List ℕ) (at a b c e : ℕ) → at + 4 ≤ length d → set (set (set (set d at a) (at + 1) b) (at + 2) c) (at + 3) e ≡ putOf d at (a ∷ b ∷ c ∷ e ∷ [])

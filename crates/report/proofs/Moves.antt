@@ -1,30 +1,10 @@
--- Laws of loops that move cells within one slice.
+-- Laws of a loop that moves cells up within one slice.
 use mathlib.Core.Path.{_≡_, sym, ap, ap₂, _∙_}
-use Prim.Native.Nat.{ℕ, suc, _+_, _-_, _≤_, _<_}
-use native.Mathlib.Numerals.{add-one}
+use Prim.Native.Nat.{ℕ, suc, _+_, _≤_}
 use native.Mathlib.Omega.{arith}
 use mathlib.Core.List.{List, _∷_}
-use lib.ListN.{length, take, drop, getD, set, length-set, length-drop}
-use lib.Seq.{paste, paste-suc, drop-paste, slice, slice-cons, getD-drop, getD-take, getD-set-same, take-take, take-set-le, take-set-lt, drop-set-lt}
-
--- DOWN
-
-module _ (w : List ℕ) (to from k : ℕ) (h : to ≤ from) (l : from + k < length w) where
-  -- What is read is not written yet.
-  down-reads : getD (paste w to (drop from w) k) (from + k) 0 ≡ getD (drop from w) k 0
-  down-reads =
-      let p = paste w to (drop from w) k in
-      let e : from + k ≡ to + k + (from - to) = omega arith in
-      let s : drop (to + k) p ≡ drop (to + k) w = drop-paste w to (drop from w) k (omega arith) (rw length-drop (omega arith)) in
-      ap (λ (i : ℕ). getD p i 0) e ∙ sym (getD-drop (to + k) p (from - to) 0) ∙ ap (λ (t : List ℕ). getD t (from - to) 0) s
-      ∙ getD-drop (to + k) w (from - to) 0 ∙ ap (λ (i : ℕ). getD w i 0) (sym e) ∙ sym (getD-drop from w k 0)
-
-  pub down-turn : (v : List ℕ) → v ≡ paste w to (drop from w) k → set v (to + k) (getD v (from + k) 0) ≡ paste w to (drop from w) (k + 1)
-  down-turn v e =
-      let g : getD v (from + k) 0 ≡ getD (drop from w) k 0 = ap (λ (t : List ℕ). getD t (from + k) 0) e ∙ down-reads in
-      rw (g, e, add-one k) (paste-suc w to (drop from w) k 0 (omega arith) (rw length-drop (omega arith)))
-
--- UP
+use lib.ListN.{length, take, drop, getD, set, length-set}
+use lib.Seq.{slice, slice-cons, getD-take, getD-set-same, take-take, take-set-le, take-set-lt, drop-set-lt}
 
 -- The cells from k on have moved, and cell j is next.
 module _

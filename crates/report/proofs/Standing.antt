@@ -11,9 +11,10 @@ use Rattle.model.specs.Lists.{total}
 use Rattle.model.specs.Cut.{Cut, empty}
 use Rattle.model.specs.Structure.{Structure, greatest, belongs, belongsAny}
 use Rattle.model.specs.Answer.{tops, sort}
-use Rattle.structure.specs.Layout.{structureAt, cells, standing}
+use Rattle.structure.specs.Layout.{cutsAt, structureAt, cells, standing}
+use Rattle.structure.proofs.Places.{cells-are}
 use Rattle.lattice.proofs.Sorting.{sort-tops}
-use Rattle.report.specs.Cuts.{cutsAt, added}
+use Rattle.report.specs.Cuts.{added}
 use Rattle.report.proofs.Cuts.{within}
 
 next-place : (c i : ℕ) (l : List ℕ) → drop c (drop (i * c) l) ≡ drop ((i + 1) * c) l
@@ -21,12 +22,9 @@ next-place c i l = let d : i * c + c ≡ (i + 1) * c = omega (arith, add-mul i 1
 
 -- k structures of e events stand in ws.
 module _ (n e k : ℕ) (counts ws : List ℕ) (t : total counts ≡ e) where
-  cells-are : cells n counts ≡ (e + 1) * n
-  cells-are = let s : suc (total counts) ≡ e + 1 = omega arith in ap (λ (m : ℕ). m * n) s
-
   -- The i-th structure is within.
   pub cells-within : (i : ℕ) {m : ℕ} → i < k → k * ((e + 1) * n) ≤ m → i * ((e + 1) * n) + cells n counts ≤ m
-  cells-within i h l = rw cells-are (within ((e + 1) * n) i k h l)
+  cells-within i h l = rw (cells-are n e counts t) (within ((e + 1) * n) i k h l)
 
   -- From the i-th on.
   standing-from : (i : ℕ) (bs : List ℕ) → i < k
@@ -34,7 +32,7 @@ module _ (n e k : ℕ) (counts ws : List ℕ) (t : total counts ≡ e) where
   unfolding standing
   standing-from i bs h =
       let s : k - i ≡ suc (k - (i + 1)) = omega arith in
-      rw (s, cells-are, next-place ((e + 1) * n) i ws)
+      rw (s, cells-are n e counts t, next-place ((e + 1) * n) i ws)
 
   -- BELONGING
 

@@ -3,7 +3,7 @@ ghost use mathlib.Core.Path.{_≡_};
 ghost use mathlib.Core.List.{List, _∷_, _++_, map};
 ghost use Prim.Native.Nat.{ℕ, _+_, _*_, _-_, _≤_, _<_};
 ghost use lib.ListN.{length, take, drop};
-ghost use lib.Seq.{paste, slice};
+ghost use lib.Seq.{slice};
 ghost use Rattle.model.specs.Lists.{total};
 ghost use Rattle.model.specs.Formula.{Formula};
 ghost use Rattle.model.specs.Cut.{empty, insideAny};
@@ -13,10 +13,10 @@ ghost use Rattle.model.specs.Structure.{greatest, belongsAny};
 ghost use Rattle.model.specs.Basis.{basis};
 ghost use Rattle.model.specs.Rounds.{rounds as basisRounds};
 ghost use Rattle.model.specs.Answer.{notInside, tops, precedes, insert, sort, answer, yesNo, fourBytes, answerLine, refusalLine};
-ghost use Rattle.structure.specs.Layout.{standing};
+ghost use Rattle.structure.specs.Layout.{cutsAt, standing};
 ghost use Rattle.structure.specs.Stations.{Stations};
 ghost use Rattle.wire.specs.Put.{putOf};
-ghost use Rattle.report.specs.Cuts.{cutsAt, added};
+ghost use Rattle.report.specs.Cuts.{added};
 ghost use Rattle.report.specs.Stands.{Stands};
 ghost use Rattle.report.specs.Written.{Written};
 
@@ -35,18 +35,6 @@ pub fn in_one(cut: &[u8], cuts: &[u8], count: usize, n: usize) -> bool
     false
 }
 
-// The n cells at a place, copied down to another.
-pub fn move_down(cells: &mut [u8], to: usize, from: usize, n: usize)
-    requires { ⌜ (to ≤ from) × (from + n ≤ length (now cells)) ⌝ }
-    ensures { λ _. ⌜ now (cells .exit) ≡ paste (now (cells .entry)) to (drop from (now (cells .entry))) n ⌝ }
-{
-    let mut k = 0;
-    while k < n {
-        cells[to + k] = cells[from + k];
-        k += 1;
-    }
-}
-
 // The cuts that are contained in a cut go, and the others close up.
 pub fn take_out(cut: &[u8], cuts: &mut [u8], count: usize, n: usize) -> usize
     requires { ⌜ (n ≤ length (now cut)) × (count * n ≤ length (now cuts)) ⌝ }
@@ -56,7 +44,7 @@ pub fn take_out(cut: &[u8], cuts: &mut [u8], count: usize, n: usize) -> usize
     let mut i = 0;
     while i < count {
         if !structure::contained(cuts, i * n, cut, 0, n) {
-            move_down(cuts, left * n, i * n, n);
+            structure::shift(cuts, i * n, left * n, n);
             left += 1;
         }
         i += 1;
@@ -115,7 +103,7 @@ pub fn insert_at(cuts: &mut [u8], cut: &[u8], place: usize, count: usize, n: usi
     ensures { λ _. ⌜ cutsAt n (count + 1) (now (cuts .exit)) ≡ cutsAt n place (now (cuts .entry)) ++ (take n (now (cut .entry)) ∷ cutsAt n (count - place) (drop (place * n) (now (cuts .entry)))) ⌝ }
 {
     shift_up(cuts, place * n, count * n, n);
-    structure::put_cut(cuts, place * n, n, cut);
+    structure::copy(cuts, place * n, cut, 0, n);
 }
 
 // One more cut among cuts none of which contains another: no change if one contains it, else those that it contains go.
@@ -229,7 +217,7 @@ pub fn put_frame(
     frame[0] = 0x40;
     frame[1] = yes_no(start);
     frame[2] = count as u8;
-    structure::put_cut(frame, 3, end, cuts);
+    structure::copy(frame, 3, cuts, 0, end);
     put_four(rounds, frame, end + 3);
     end + 7
 }

@@ -1,34 +1,23 @@
 -- The starts of a pair, one behind the other: the rows that they leave and the sum of their rounds are those of the rule.
 use mathlib.Core.Path.{_≡_, refl, sym, ap, ap₂, _∙_}
 use Prim.Native.Nat.{ℕ, zero, suc, _+_, _*_}
-use native.Mathlib.Nat.{add-assoc, zero-add, suc-mul}
 use native.Mathlib.Omega.{arith}
-use mathlib.Core.List.{List, [], _∷_, _++_, map}
+use mathlib.Core.List.{List, [], _∷_, _++_, map, map-append, map-map}
 use mathlib.Core.Option.{Option, some}
 use lib.ListN.{length, take, drop}
-use lib.Seq.{take-at, drop-at, drop-drop}
+use lib.Seq.{take-at, drop-at}
 use Rattle.model.specs.Lists.{sum, total}
 use Rattle.model.specs.Cut.{Cut, empty}
 use Rattle.model.specs.Computation.{Computation, Event, full, eventCount}
 use Rattle.model.specs.Structure.{Structure}
 use Rattle.model.specs.Basis.{run, start}
 use Rattle.model.specs.Rounds.{roundsOfPair}
-use Rattle.structure.specs.Layout.{decoded, rowsAt, stationsAt, barsAt, structureAt}
+use Rattle.lattice.proofs.Sums.{sum-append}
+use Rattle.lattice.proofs.Shape.{same-lengths}
+use Rattle.structure.specs.Layout.{decoded, rowsAt, stationsAt, cutsAt, barsAt, structureAt}
 use Rattle.structure.proofs.Rows.{decoded-is}
 use Rattle.structure.proofs.Places.{rows-add, length-rows}
 use Rattle.rounds.specs.Pair.{Starts, Intersected}
-
--- The m cuts at the front of ws.
-unfoldable pub cutsAt : ℕ → ℕ → List ℕ → List Cut
-cutsAt n zero ws = []
-cutsAt n (suc m) ws = take n ws ∷ cutsAt n m (drop n ws)
-
-pub cuts-snoc : (n m : ℕ) (w : List ℕ) → cutsAt n (m + 1) w ≡ cutsAt n m w ++ (take n (drop (m * n) w) ∷ [])
-unfolding cutsAt
-cuts-snoc n zero w = rw native.Mathlib.Nat.zero-mul
-cuts-snoc n (suc m) w =
-    let s : n + m * n ≡ suc m * n = omega (arith, suc-mul m n) in
-    rw (native.Mathlib.Nat.suc-add m 1, ← s, ← drop-drop (m * n) n w) (ap (λ (l : List Cut). take n w ∷ l) (cuts-snoc n m (drop n w)))
 
 -- Rows that are all there, as cuts.
 cuts-are : {A : Type 0} (f : A → Cut) (n : ℕ) (l : List A) (m : ℕ) (w : List ℕ) → rowsAt n m w ≡ map (λ (v : A). some (f v)) l → cutsAt n m w ≡ map f l
@@ -57,38 +46,21 @@ module _ {A : Type 0} where
   pieces-flat [] = refl
   pieces-flat (l ∷ ls) = rw (take-at l (flat ls) (length l) refl, drop-at l (flat ls) (length l) refl, pieces-flat ls)
 
-  pub sum-append : (g : A → ℕ) (l k : List A) → sum g (l ++ k) ≡ sum g l + sum g k
-  unfolding sum
-  sum-append g [] k = sym (zero-add (sum g k))
-  sum-append g (x ∷ l) k = rw (sum-append g l k) (sym (add-assoc (g x) (sum g l) (sum g k)))
-
   sum-flat : (g : A → ℕ) (ls : List (List A)) → sum g (flat ls) ≡ sum (sum g) ls
   unfolding sum flat
   sum-flat g [] = refl
   sum-flat g (l ∷ ls) = sum-append g l (flat ls) ∙ rw (sum-flat g ls)
 
 module _ {A : Type 0} {B : Type 0} (f : A → B) where
-  pub map-append : (l k : List A) → map f (l ++ k) ≡ map f l ++ map f k
-  map-append [] k = refl
-  map-append (x ∷ l) k = ap (λ (r : List B). f x ∷ r) (map-append l k)
-
   map-flat : (ls : List (List A)) → flat (map (map f) ls) ≡ map f (flat ls)
   unfolding flat
   map-flat [] = refl
-  map-flat (l ∷ ls) = rw (map-flat ls) (sym (map-append l (flat ls)))
-
-  lengths : (ls : List (List A)) → map length (map (map f) ls) ≡ map length ls
-  lengths [] = refl
-  lengths (l ∷ ls) = rw (lib.ListN.length-map l f, lengths ls)
+  map-flat (l ∷ ls) = rw (map-flat ls) (sym (map-append f l (flat ls)))
 
   sum-map : (g : B → ℕ) (l : List A) → sum g (map f l) ≡ sum (λ (v : A). g (f v)) l
   unfolding sum
   sum-map g [] = refl
   sum-map g (x ∷ l) = rw (sum-map g l)
-
-  map-map : {C : Type 0} (h : B → C) (l : List A) → map h (map f l) ≡ map (λ (v : A). h (f v)) l
-  map-map h [] = refl
-  map-map h (x ∷ l) = ap (λ (r : List _). h (f x) ∷ r) (map-map h l)
 
 rows-flat : (n : ℕ) (counts w : List ℕ) → rowsAt n (total counts) w ≡ flat (stationsAt n counts w)
 unfolding stationsAt sum flat rowsAt
@@ -127,7 +99,7 @@ module _ (K : Computation) (n e : ℕ) (counts starts : List ℕ) (s : Starts K 
     unfolding rowsAt
     all-rows =
         rows ∙ ap (map (λ (c : Cut). (run S T (suc e) c) .reached)) starts-cuts
-        ∙ ap (λ (l : List (Option Cut)). (run S T (suc e) (empty n)) .reached ∷ l) (map-map (λ (v : Event). v .clock) (λ (c : Cut). (run S T (suc e) c) .reached) (flat (K .events)))
+        ∙ ap (λ (l : List (Option Cut)). (run S T (suc e) (empty n)) .reached ∷ l) (map-map (λ (c : Cut). (run S T (suc e) c) .reached) (λ (v : Event). v .clock) (flat (K .events)))
 
     least-is : decoded (take n w) ≡ (start K S T (empty n)) .reached
     unfolding start
@@ -143,7 +115,7 @@ module _ (K : Computation) (n e : ℕ) (counts starts : List ℕ) (s : Starts K 
         stations-pieces n (full K) (drop n w)
         ∙ ap (λ (m : ℕ). pieces (full K) (rowsAt n m (drop n w))) (s .counted)
         ∙ ap (pieces (full K)) (t ∙ ap (λ (m : ℕ). map (reachedFrom m) (flat (K .events))) (sym (s .counted)) ∙ sym (map-flat f (K .events)))
-        ∙ ap (λ (l : List ℕ). pieces l (flat (map (map f) (K .events)))) (sym (lengths f (K .events)))
+        ∙ ap (λ (l : List ℕ). pieces l (flat (map (map f) (K .events)))) (sym (same-lengths f (K .events)))
         ∙ pieces-flat (map (map f) (K .events))
 
     rounds-are : r ≡ roundsOfPair K S T

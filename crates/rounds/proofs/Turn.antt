@@ -1,35 +1,30 @@
 -- The loop over the starts: after i of them their rows stand in their places, and nothing else has changed.
 use mathlib.Core.Path.{_≡_, refl, sym, ap, ap₂, _∙_}
 use Prim.Native.Nat.{ℕ, suc, _+_, _-_, _*_, _≤_, _<_}
-use native.Mathlib.Nat.{add-zero, suc-mul, mul-le-mul}
-use native.Mathlib.Numerals.{add-one}
+use native.Mathlib.Nat.{mul-le-mul}
 use native.Mathlib.Omega.{arith}
-use mathlib.Core.List.{List, [], _∷_, _++_, map}
+use mathlib.Core.List.{List, [], _∷_, _++_, map, map-append}
 use mathlib.Core.Option.{Option}
 use lib.ListN.{length, getD, take, drop, replicate}
-use lib.Seq.{paste, take-at, drop-at, take-take, drop-drop, length-take-le, take-paste, drop-paste}
-use Rattle.model.specs.Lists.{sum, total}
+use lib.Seq.{paste, drop-drop, drop-paste}
+use Rattle.model.specs.Lists.{sum}
 use Rattle.model.specs.Cut.{Cut}
 use Rattle.model.specs.Computation.{Computation}
 use Rattle.model.specs.Structure.{Structure}
 use Rattle.model.specs.Basis.{Outcome, run}
-use Rattle.structure.specs.Layout.{decoded, rowsAt, placed, cells}
+use Rattle.lattice.proofs.Sums.{sum-snoc}
+use Rattle.structure.specs.Layout.{decoded, rowsAt, cutsAt, placed, cells}
+use Rattle.structure.proofs.Parts.{front-same, part-same, paste-front, paste-part}
 use Rattle.structure.proofs.Rows.{is-none, is-some}
-use Rattle.structure.proofs.Places.{rows-add, row-room}
-use Rattle.structure.proofs.Standing.{drop-take, front-same, back-same, rows-same, set-kept}
+use Rattle.structure.proofs.Places.{rows-add, one-more, row-fits}
+use Rattle.structure.proofs.Listed.{cuts-more}
+use Rattle.structure.proofs.Standing.{rows-same, set-kept}
 use Rattle.rounds.specs.Said.{startReached, startOutcome}
 use Rattle.rounds.specs.Pair.{Written, Began, Starts, Intersected}
 use Rattle.rounds.specs.declared.Outcome.{Outcome as Answer}
 use Rattle.rounds.specs.declared.Outcome.the-variants.{Raised, Lost}
 use Rattle.rounds.specs.declared.Start.{Start}
-use Rattle.rounds.proofs.Starts.{cutsAt, cuts-snoc, sum-append, map-append, intersected}
-
--- The place of row i of e + 1.
-pub start-room : (n e i : ℕ) → i ≤ e → i * n + n ≤ (e + 1) * n
-start-room n e i h = omega (arith, row-room n e 0 i ((e + 1) * n) h (omega (arith, ap (λ (x : ℕ). x * n) (add-one e))))
-
-pub size-is : (n e : ℕ) (counts : List ℕ) → total (take n counts) ≡ e → cells n (take n counts) ≡ (e + 1) * n
-size-is n e counts t = ap (λ (x : ℕ). suc x * n) t ∙ ap (λ (x : ℕ). x * n) (sym (add-one e))
+use Rattle.rounds.proofs.Starts.{intersected}
 
 pub few-rounds : (i e r : ℕ) → i ≤ e → e ≤ 127 → r ≤ i * (e + 1) → r ≤ 127 * 128
 few-rounds i e r h l f = omega (arith, mul-le-mul {n₁ = i} {m₁ = e + 1} {n₂ = 127} {m₂ = 128} (omega arith) (omega arith))
@@ -37,11 +32,9 @@ few-rounds i e r h l f = omega (arith, mul-le-mul {n₁ = i} {m₁ = e + 1} {n�
 -- The row of a start that is written from s.
 pub row-written : (n at : ℕ) (w v s : List ℕ) (o : Option Cut) → at + n ≤ length w → n ≤ length s → v ≡ paste w at s n → decoded (take n s) ≡ o → Written n at w v o
 row-written n at w v s o h l q e =
-    let m : length (take at w) ≡ at = length-take-le at w (omega arith) in
-    let t : take (at + n) v ≡ take at w ++ take n s = ap (take (at + n)) q ∙ take-paste w at s n (omega arith) l in
     record {
-      before = sym (take-take at (at + n) v (omega arith)) ∙ ap (take at) t ∙ take-at (take at w) (take n s) at m;
-      says = ap decoded (sym (drop-take at n v) ∙ ap (drop at) t ∙ drop-at (take at w) (take n s) at m) ∙ e;
+      before = ap (take at) q ∙ paste-front w at s n (omega arith) l;
+      says = ap decoded (ap (λ (x : List ℕ). take n (drop at x)) q ∙ paste-part w at s n (omega arith) l) ∙ e;
       behind = ap (drop (at + n)) q ∙ drop-paste w at s n (omega arith) l;
     }
 
@@ -102,32 +95,31 @@ module _ (n e a b o : ℕ) (counts starts w : List ℕ) where
       same bs bt = ap₂ (λ (S T : Structure). run S T (suc e) (take n (drop (i * n) starts))) (same-a bs) (same-b bt)
 
       turn-before : take o u ≡ take o w
-      turn-before = front-same o (i * n) (o + i * n) u v refl (began [] [] .written .before) ∙ t .before
+      turn-before = front-same (o + i * n) u v (began [] [] .written .before) o (omega arith) ∙ t .before
 
       turn-behind : drop (o + (e + 1) * n) u ≡ drop (o + (e + 1) * n) w
       turn-behind =
           let m : ℕ = (e + 1) * n - (i * n + n) in
-          let s : o + i * n + n + m ≡ o + (e + 1) * n = omega (arith, start-room n e i h) in
+          let s : o + i * n + n + m ≡ o + (e + 1) * n = omega (arith, row-fits i e n h) in
           ap (λ (y : ℕ). drop y u) (sym s) ∙ sym (drop-drop m (o + i * n + n) u) ∙ ap (drop m) (began [] [] .written .behind)
           ∙ drop-drop m (o + i * n + n) v ∙ ap (λ (y : ℕ). drop y v) s ∙ t .behind
 
       turn-sums : (bs bt : List ℕ) → r + x ≡ sum (λ (c : Cut). (outcome bs bt c) .rounds) (cutsAt n (i + 1) starts)
-      unfolding sum
       turn-sums bs bt =
           let g : Cut → ℕ = λ c. (outcome bs bt c) .rounds in
-          ap₂ (λ (y z : ℕ). y + z) (t .sums bs bt) (began bs bt .rounds ∙ ap (λ (o : Outcome). o .rounds) (same bs bt) ∙ sym (add-zero (g (take n (drop (i * n) starts)))))
-          ∙ sym (ap (sum g) (cuts-snoc n i starts) ∙ sum-append g (cutsAt n i starts) (take n (drop (i * n) starts) ∷ []))
+          ap₂ (λ (y z : ℕ). y + z) (t .sums bs bt) (began bs bt .rounds ∙ ap (λ (o : Outcome). o .rounds) (same bs bt))
+          ∙ sym (ap (sum g) (cuts-more n i starts) ∙ sum-snoc g (cutsAt n i starts) (take n (drop (i * n) starts)))
 
       turn-rows : (bs bt : List ℕ) → rowsAt n (i + 1) (drop o u) ≡ map (λ (c : Cut). (outcome bs bt c) .reached) (cutsAt n (i + 1) starts)
       unfolding rowsAt
       turn-rows bs bt =
           let f : Cut → Option Cut = λ c. (outcome bs bt c) .reached in
-          let p : rowsAt n i (drop o u) ≡ rowsAt n i (drop o v) = rows-same n i (drop o u) (drop o v) (back-same o (i * n) (o + i * n) u v refl (began [] [] .written .before)) in
+          let p : rowsAt n i (drop o u) ≡ rowsAt n i (drop o v) = rows-same n i (drop o u) (drop o v) (part-same (o + i * n) u v (began [] [] .written .before) o (i * n) (omega arith)) in
           let q : decoded (take n (drop (i * n) (drop o u))) ≡ f (take n (drop (i * n) starts)) =
           ap (λ (l : List ℕ). decoded (take n l)) (drop-drop (i * n) o u) ∙ began bs bt .written .says ∙ ap (λ (o : Outcome). o .reached) (same bs bt) in
           rows-add n i 1 (drop o u)
           ∙ ap₂ (λ (y : List (Option Cut)) (z : Option Cut). y ++ (z ∷ [])) (p ∙ t .rows bs bt) q
-          ∙ sym (ap (map f) (cuts-snoc n i starts) ∙ map-append f (cutsAt n i starts) (take n (drop (i * n) starts) ∷ []))
+          ∙ sym (ap (map f) (cuts-more n i starts) ∙ map-append f (cutsAt n i starts) (take n (drop (i * n) starts) ∷ []))
 
       pub turned-more : Turned (i + 1) u (r + x)
       turned-more = record {
@@ -135,7 +127,7 @@ module _ (n e a b o : ℕ) (counts starts w : List ℕ) where
         long = l ∙ t .long;
         before = turn-before;
         behind = turn-behind;
-        few = omega (arith, t .few, ap (λ (y : ℕ). y * (e + 1)) (add-one i) ∙ suc-mul i (e + 1));
+        few = omega (arith, t .few, one-more i (e + 1));
         sums = turn-sums;
         rows = turn-rows;
       }

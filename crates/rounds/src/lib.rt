@@ -137,8 +137,8 @@ pub fn put_start(ws: &mut [u8], at: usize, n: usize, r: Start)
     let outcome = r.outcome;
     let cut = r.cut;
     match outcome {
-        Outcome::Raised => structure::put_cut(ws, at, n, &cut),
-        Outcome::Lost => structure::put_cut(ws, at, n, &[structure::NONE; 8]),
+        Outcome::Raised => structure::copy(ws, at, &cut, 0, n),
+        Outcome::Lost => structure::copy(ws, at, &[structure::NONE; 8], 0, n),
     }
 }
 

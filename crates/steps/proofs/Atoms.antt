@@ -3,14 +3,13 @@ use mathlib.Core.Path.{_≡_, refl, sym, ap, ap₂, _∙_}
 use mathlib.Core.Logic.{_⊎_, inl, inr, ⊎-elim}
 use Prim.Native.Nat.{ℕ, zero, suc, _+_, _-_, _*_, _≤_, _<_, max}
 use native.Mathlib.Omega.{arith}
-use mathlib.Core.List.{List, [], _∷_}
+use mathlib.Core.List.{List, []}
 use mathlib.Core.Bool.{Bool, true, false, cond}
 use mathlib.Core.Option.{Option, none, some}
 use lib.Dec.{leb}
-use lib.ListN.{length, getD, take, drop, getD-replicate, List·getD-map}
+use lib.ListN.{length, getD, drop, getD-replicate, List·getD-map}
 use lib.Seq.{getD-take, getD-drop}
 use borrow.Author.Tests.{eq-eqb, ne-eqb, leb-true, leb-false}
-use Rattle.model.specs.Lists.{sum, total}
 use Rattle.model.specs.Cut.{Cut, _!_, empty, join}
 use Rattle.model.specs.Computation.{Computation, full, count, value, clock}
 use Rattle.model.specs.Rules.{passes}
@@ -19,8 +18,12 @@ use Rattle.model.specs.Basis.{next, upTo, raiseAtom}
 use Rattle.structure.specs.Layout.{decoded, standing}
 use Rattle.structure.specs.Laid.{Laid}
 use Rattle.steps.specs.Rows.{rowAt, absent, coded, entry, eventRow, joinedRow, atomRow, Tabled}
-use Rattle.steps.proofs.Laws.{join-at, event-fits, event-later}
-use Rattle.steps.proofs.Built.{decoded-none, decoded-some, first-row, clock-row, start-there, build-empty, build-there, keep-free, no-bars}
+use Rattle.lattice.proofs.Cuts.{join-at}
+use Rattle.lattice.proofs.Sums.{total-take}
+use Rattle.structure.proofs.Places.{cells-are}
+use Rattle.structure.proofs.Rows.{decoded-none, decoded-some}
+use Rattle.steps.proofs.Laws.{event-fits, event-later}
+use Rattle.steps.proofs.Built.{first-row, clock-row, start-there, build-empty, build-there, keep-free, no-bars}
 
 -- THE FIRST COUNT THAT PASSES
 
@@ -56,13 +59,6 @@ entry-place p m k = go (next-place p (suc m - k) k)
 
 -- COUNTS
 
-before-and-own : (l : List ℕ) (s : ℕ) → total (take s l) + getD l s 0 ≤ total l
-unfolding sum
-before-and-own [] zero = omega arith
-before-and-own [] (suc s) = omega arith
-before-and-own (x ∷ l) zero = omega arith
-before-and-own (x ∷ l) (suc s) = let h = before-and-own l s in omega arith
-
 pub not-both : (x y : ℕ) → (x ≡ 255 → ⊥) → (y ≡ 255 → ⊥) → max x y ≡ 255 → ⊥
 not-both x y f g h = go (leb x y) refl
   where
@@ -76,15 +72,13 @@ module _ (K : Computation) (n e : ℕ) (counts offs starts values : List ℕ) (l
 
   pub own-fit : getD offs s 0 + getD counts s 0 ≤ e
   own-fit =
-      omega (arith, before-and-own (full K) s, laid .offs-are s h, laid .counted, sym (getD-take n counts s 0 h) ∙ ap (λ (l : List ℕ). getD l s 0) (laid .counts-are))
+      omega (arith, total-take (full K) s, laid .offs-are s h, laid .counted, sym (getD-take n counts s 0 h) ∙ ap (λ (l : List ℕ). getD l s 0) (laid .counts-are))
 
   pub values-fit : getD offs s 0 + s + getD counts s 0 < length values
   values-fit = omega (arith, own-fit, laid .values-fit)
 
   pub starts-fit : (e + 1) * n ≤ length starts
-  starts-fit =
-      let q : e + 1 ≡ suc (total (full K)) = omega (arith, laid .counted) in
-      rw q (laid .starts-fit)
+  starts-fit = rw (← cells-are n e (full K) (laid .counted)) (laid .starts-fit)
 
   event-row-is : (j : ℕ) → j ≤ count K s → rowAt n (eventRow (getD offs s 0) j) starts ≡ clock K s j
   unfolding eventRow clock

@@ -5,41 +5,31 @@ use native.Mathlib.Omega.{arith}
 use native.Mathlib.Nat.{not-suc-le-zero, le-of-suc-le-suc}
 use mathlib.Core.List.{List, [], _∷_, map}
 use mathlib.Core.Bool.{Bool, true, false}
-use mathlib.Core.Option.{Option, none, some}
+use mathlib.Core.Option.{Option, some}
 use lib.Dec.{ltb}
 use lib.ListN.{length, getD, take, drop}
 use lib.Seq.{getD-take}
-use borrow.Author.Tests.{eq-eqb, ne-eqb, ltb-true, ltb-false}
+use borrow.Author.Tests.{eq-eqb, ltb-true, ltb-false}
 use Rattle.model.specs.Lists.{sum, total}
 use Rattle.model.specs.Cut.{Cut, empty, insideAny}
 use Rattle.model.specs.Computation.{Computation, Event, stations, full, count, noEvent, clock}
 use Rattle.model.specs.Structure.{keep, build, buildOn}
 use Rattle.structure.specs.Layout.{decoded, rowsAt, stationsAt, barsAt}
 use Rattle.structure.specs.Laid.{Laid}
+use Rattle.structure.proofs.Rows.{decoded-none, decoded-some, decoded-is}
 use Rattle.steps.specs.Rows.{rowAt}
 use Rattle.steps.proofs.Parts.{row-zero, row-suc, row-skip}
 
--- WHAT A ROW SAYS
-
-pub decoded-none : (x : List ℕ) → getD x 0 0 ≡ 255 → decoded x ≡ none
-unfolding decoded
-decoded-none x e = rw (eq-eqb (getD x 0 0) 255 e)
-
-pub decoded-some : (x : List ℕ) → (getD x 0 0 ≡ 255 → ⊥) → decoded x ≡ some x
-unfolding decoded
-decoded-some x f = rw (ne-eqb (getD x 0 0) 255 f)
-
-none-some : {c : Cut} → _≡_ {A = Option Cut} none (some c) → ⊥
-none-some e = let z : _≡_ {A = ℕ} 0 1 = cc in absurd (omega arith)
-
-some-same : {a b : Cut} → some a ≡ some b → a ≡ b
-some-same e = cc
-
+-- A row that says a cut does not begin with 255.
 pub first-there : (x c : List ℕ) → decoded x ≡ some c → getD x 0 0 ≡ 255 → ⊥
-first-there x c e f = none-some (sym (decoded-none x f) ∙ e)
+first-there x c e f = let n = decoded-none x f in let z : _≡_ {A = ℕ} 0 1 = cc in omega arith
 
-pub decoded-is : (x c : List ℕ) → decoded x ≡ some c → x ≡ c
-decoded-is x c e = some-same (sym (decoded-some x (first-there x c e)) ∙ e)
+module _ {A : Type 0} {x y : A} {l m : List A} (e : x ∷ l ≡ y ∷ m) where
+  head-of : x ≡ y
+  head-of = cc e
+
+  tail-of : l ≡ m
+  tail-of = cc e
 
 -- ROWS, STATION BY STATION
 
@@ -47,18 +37,6 @@ abbrev clocks : List Event → List (Option Cut)
 clocks l = map (λ (v : Event). some (v .clock)) l
 
 module _ (n : ℕ) where
-  head-of : {o p : Option Cut} {l m : List (Option Cut)} → o ∷ l ≡ p ∷ m → o ≡ p
-  head-of e = cc
-
-  tail-of : {o p : Option Cut} {l m : List (Option Cut)} → o ∷ l ≡ p ∷ m → l ≡ m
-  tail-of e = cc
-
-  first-of : {o p : List (Option Cut)} {l m : List (List (Option Cut))} → o ∷ l ≡ p ∷ m → o ≡ p
-  first-of e = cc
-
-  rest-of : {o p : List (Option Cut)} {l m : List (List (Option Cut))} → o ∷ l ≡ p ∷ m → l ≡ m
-  rest-of e = cc
-
   row-there : (l : List Event) (w : List ℕ) → rowsAt n (length l) w ≡ clocks l → (i : ℕ) → i < length l
       → decoded (rowAt n i w) ≡ some ((getD l i noEvent) .clock)
   unfolding rowsAt
@@ -72,21 +50,21 @@ module _ (n : ℕ) where
   clock-there [] w e s k h = absurd (not-suc-le-zero h)
   clock-there (l ∷ ls) w e zero k h =
       let z : 0 + k ≡ k = omega arith in
-      ap (λ (x : ℕ). decoded (rowAt n x w)) z ∙ row-there l w (first-of e) k h
+      ap (λ (x : ℕ). decoded (rowAt n x w)) z ∙ row-there l w (head-of e) k h
   clock-there (l ∷ ls) w e (suc s) k h =
       let t : ℕ = total (take s (map length ls)) in
       let z : length l + t + k ≡ length l + (t + k) = omega arith in
-      ap (λ (x : ℕ). decoded (rowAt n x w)) z ∙ ap decoded (row-skip n (length l) (t + k) w) ∙ clock-there ls (drop (length l * n) w) (rest-of e) s k h
+      ap (λ (x : ℕ). decoded (rowAt n x w)) z ∙ ap decoded (row-skip n (length l) (t + k) w) ∙ clock-there ls (drop (length l * n) w) (tail-of e) s k h
 
   pub each-there : (ls : List (List Event)) (w : List ℕ) → stationsAt n (map length ls) w ≡ map clocks ls → (i : ℕ) → i < total (map length ls)
       → (c : Cut) × (decoded (rowAt n i w) ≡ some c)
   unfolding stationsAt sum
   each-there [] w e i h = absurd (not-suc-le-zero h)
-  each-there (l ∷ ls) w e i h = go (ltb i (length l)) refl (each-there ls (drop (length l * n) w) (rest-of e) (i - length l))
+  each-there (l ∷ ls) w e i h = go (ltb i (length l)) refl (each-there ls (drop (length l * n) w) (tail-of e) (i - length l))
     where
       go : (b : Bool) → ltb i (length l) ≡ b → (i - length l < total (map length ls) → (c : Cut) × (decoded (rowAt n (i - length l) (drop (length l * n) w)) ≡ some c))
           → (c : Cut) × (decoded (rowAt n i w) ≡ some c)
-      go true q r = ((getD l i noEvent) .clock, row-there l w (first-of e) i (ltb-true i (length l) q))
+      go true q r = ((getD l i noEvent) .clock, row-there l w (head-of e) i (ltb-true i (length l) q))
       go false q r =
           let a : length l ≤ i = ltb-false i (length l) q in
           let z : i ≡ length l + (i - length l) = omega arith in
@@ -111,8 +89,8 @@ module _ (n : ℕ) where
     stations-built [] v w e g = refl
     stations-built (l ∷ ls) v w e g =
         ap₂ (λ (o : List (Option Cut)) (r : List (List (Option Cut))). o ∷ r)
-        (rows-built l v w (first-of e) (λ i h. g i (omega arith)))
-        (stations-built ls (drop (length l * n) v) (drop (length l * n) w) (rest-of e)
+        (rows-built l v w (head-of e) (λ i h. g i (omega arith)))
+        (stations-built ls (drop (length l * n) v) (drop (length l * n) w) (tail-of e)
         (λ i h. ap decoded (sym (row-skip n (length l) i w)) ∙ g (length l + i) (omega arith) ∙ ap f (row-skip n (length l) i v)))
 
 -- A COMPUTATION LAID OUT

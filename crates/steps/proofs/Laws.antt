@@ -1,46 +1,23 @@
--- What the loops write: copies, joins, the table of a station, the rows of an atom.
+-- What the loops write: joins, the table of a station, the rows of an atom.
 use mathlib.Core.Path.{_≡_, refl, ap₂, _∙_}
-use Prim.Native.Nat.{ℕ, zero, suc, _+_, _-_, _*_, _≤_, _<_, max}
+use Prim.Native.Nat.{ℕ, suc, _+_, _-_, _*_, _≤_, _<_, max}
 use native.Mathlib.Omega.{arith}
 use native.Mathlib.Numerals.{add-one}
-use mathlib.Core.List.{List, [], _∷_}
+use mathlib.Core.List.{List}
 use mathlib.Core.Bool.{Bool, true, false, cond, not}
 use lib.Dec.{eqb}
 use lib.ListN.{length, getD, take, drop, set, replicate, length-drop, length-replicate, getD-replicate}
-use lib.Seq.{paste, paste-suc, length-take-le, getD-take, getD-drop, getD-set-same, getD-set-other}
+use lib.Seq.{length-take-le, getD-take, getD-drop, getD-set-same, getD-set-other}
 use borrow.Author.Tests.{eq-eqb, ne-eqb, eqb-true, eqb-false, lt-leb, le-leb}
-use Rattle.steps.proofs.Parts.{row-fits}
 use Rattle.model.specs.Lists.{between}
 use Rattle.model.specs.Cut.{join}
 use Rattle.model.specs.Rules.{passes}
 use Rattle.model.specs.Basis.{next}
+use Rattle.lattice.proofs.Cuts.{length-join, join-at}
+use Rattle.structure.proofs.Places.{row-fits}
 use Rattle.steps.specs.Rows.{rowAt, absent, coded, entry, eventRow, joinedRow, atomRow, Tabled}
 
--- COPIES
-
--- A turn of a loop that writes the list s at `at`: the value v is element j of s.
-pub paste-more : (d : List ℕ) (at : ℕ) (s : List ℕ) (j v : ℕ) → at + j < length d → j < length s → getD s j 0 ≡ v
-    → set (paste d at s j) (at + j) v ≡ paste d at s (j + 1)
-paste-more d at s j v h l e = rw (← e, add-one) (paste-suc d at s j 0 h l)
-
--- The end of such a loop.
-pub paste-done : (d : List ℕ) (at : ℕ) (s : List ℕ) (i m : ℕ) (w : List ℕ) → i ≡ m → w ≡ paste d at s i → w ≡ paste d at s m
-paste-done d at s i m w e h = rw (← e) h
-
 -- JOINS
-
-pub length-join : (c d : List ℕ) → length (join c d) ≡ max (length c) (length d)
-unfolding join
-length-join [] d = omega arith
-length-join (x ∷ c) [] = omega arith
-length-join (x ∷ c) (y ∷ d) = let h = length-join c d in omega arith
-
-pub join-at : (c d : List ℕ) (j : ℕ) → getD (join c d) j 0 ≡ max (getD c j 0) (getD d j 0)
-unfolding join
-join-at [] d j = omega arith
-join-at (x ∷ c) [] j = omega arith
-join-at (x ∷ c) (y ∷ d) zero = refl
-join-at (x ∷ c) (y ∷ d) (suc j) = join-at c d j
 
 -- Element j of two parts joined.
 pub parts-at : (s : List ℕ) (a b n j : ℕ) → j < n → getD (join (take n (drop a s)) (take n (drop b s))) j 0 ≡ max (getD s (a + j) 0) (getD s (b + j) 0)

@@ -11,7 +11,6 @@ ghost use Rattle.model.specs.Structure.{build};
 ghost use Rattle.model.specs.Basis.{raiseAtom};
 ghost use Rattle.structure.specs.Layout.{standing};
 ghost use Rattle.structure.specs.Laid.{Laid};
-ghost use Rattle.steps.specs.Known.{Known};
 ghost use Rattle.steps.specs.Rows.{rowAt, entry, eventRow, atomRow, Tabled, Ended};
 
 // x in the len cells from at on.
@@ -22,18 +21,6 @@ pub fn fill(ws: &mut [u8], at: usize, len: usize, x: u8)
     let mut i = 0;
     while i < len {
         ws[at + i] = x;
-        i += 1;
-    }
-}
-
-// The len cells of src from `from` on, copied to at.
-pub fn copy(ws: &mut [u8], at: usize, src: &[u8], from: usize, len: usize)
-    requires { ⌜ (at + len ≤ length (now ws)) × (from + len ≤ length (now src)) ⌝ }
-    ensures { λ _. ⌜ now (ws .exit) ≡ paste (now (ws .entry)) at (drop from (now (src .entry))) len ⌝ }
-{
-    let mut i = 0;
-    while i < len {
-        ws[at + i] = src[from + i];
         i += 1;
     }
 }
@@ -165,7 +152,7 @@ pub fn atom(
     lo: u16,
     hi: u16,
 ) -> usize
-    requires { ⌜ Known n e (now counts) (now offs) (now starts) (now values) ⌝ }
+    requires { ⌜ ((K : Computation) × Laid K n e (now counts) (now offs) (now starts) (now values)) ⌝ }
     requires { ⌜ (s < n) × ((e + 1) * n ≤ length (now ws)) × (16 * n ≤ length (now bs)) ⌝ }
     ensures { λ r. ⌜ (r ≤ 1) × (0 < r → getD (now (ws .exit)) 0 0 ≡ 255 → ⊥)
         × ((K : Computation) → Laid K n e (now (counts .entry)) (now (offs .entry)) (now (starts .entry)) (now (values .entry))

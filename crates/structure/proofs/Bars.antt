@@ -1,8 +1,6 @@
 -- Laws of the bars at a place, from slot i on, and of belonging.
-use mathlib.Core.Path.{_≡_, sym, ap, _∙_}
+use mathlib.Core.Path.{_≡_, sym, _∙_}
 use Prim.Native.Nat.{ℕ, suc, _+_, _-_, _*_, _≤_, _<_}
-use native.Mathlib.Nat.{suc-mul, mul-le-mul-right}
-use native.Mathlib.Numerals.{add-one}
 use native.Mathlib.Omega.{arith}
 use mathlib.Core.Bool.{Bool, true, false, not, _||_}
 use mathlib.Core.List.{List}
@@ -13,6 +11,7 @@ use Rattle.model.specs.Cut.{Cut, inside, insideAny}
 use Rattle.model.specs.Structure.{Structure, raise, reaches, inSet, belongs}
 use Rattle.structure.specs.Layout.{decoded, barsAt}
 use Rattle.structure.proofs.Rows.{is-none, is-some, first-at}
+use Rattle.structure.proofs.Places.{one-more, next-fits}
 
 -- Is c contained in one of the bars from slot i on?
 abbrev pub barredFrom : ℕ → Cut → List ℕ → ℕ → ℕ → Bool
@@ -31,7 +30,7 @@ module _ (n : ℕ) (c : Cut) (bs : List ℕ) (at i : ℕ) where
     more = omega arith
 
     pub bars-room : (l : ℕ) → at + 16 * n ≤ l → at + i * n + n ≤ l
-    bars-room l r = omega (arith, mul-le-mul-right n h, suc-mul i n)
+    bars-room l r = omega (arith, next-fits i 16 n h)
 
     pub bars-unused : getD bs (at + i * n) 0 ≡ 255 → barredFrom n c bs at i ≡ false
     unfolding barsAt insideAny
@@ -41,7 +40,7 @@ module _ (n : ℕ) (c : Cut) (bs : List ℕ) (at i : ℕ) where
         → barredFrom n c bs at i ≡ (inside c (take n (drop (at + i * n) bs)) || barredFrom n c bs at (i + 1))
     unfolding barsAt insideAny
     bars-here f =
-        let s : at + i * n + n ≡ at + (i + 1) * n = omega (arith, ap (λ (x : ℕ). x * n) (add-one i) ∙ suc-mul i n) in
+        let s : at + i * n + n ≡ at + (i + 1) * n = omega (arith, one-more i n) in
         rw (more, first-at bs (at + i * n), ne-eqb (getD bs (at + i * n) 0) 255 f, drop-drop n (at + i * n) bs, s)
 
 -- What raising a cut to r tells of belonging.

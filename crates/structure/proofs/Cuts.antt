@@ -12,13 +12,6 @@ use lib.Seq.{slice, slice-cons, slice-empty, getD-drop}
 use borrow.Author.Tests.{le-leb, lt-leb}
 use Rattle.model.specs.Cut.{Cut, join, inside}
 
-pub length-join : (a b : Cut) → length b ≤ length a → length (join a b) ≡ length a
-unfolding join
-length-join [] [] h = refl
-length-join [] (y ∷ b) h = absurd (omega arith)
-length-join (x ∷ a) [] h = refl
-length-join (x ∷ a) (y ∷ b) h = ap suc (length-join a b (omega arith))
-
 pub take-join : (n : ℕ) (a b : Cut) → take n (join a b) ≡ join (take n a) (take n b)
 unfolding join
 take-join zero a b = refl

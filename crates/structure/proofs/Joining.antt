@@ -1,8 +1,6 @@
 -- Laws of the greatest cut: the rows of all stations in one line, joined from the first to the last.
 use mathlib.Core.Path.{_≡_, refl, sym, ap, ap₂, _∙_}
 use Prim.Native.Nat.{ℕ, suc, _+_, _-_, _*_, _≤_, _<_}
-use native.Mathlib.Nat.{suc-mul}
-use native.Mathlib.Numerals.{add-one}
 use native.Mathlib.Omega.{arith}
 use mathlib.Core.List.{List, [], _∷_, _++_}
 use mathlib.Core.Option.{Option, none, some}
@@ -14,7 +12,7 @@ use Rattle.model.specs.Structure.{joinRow, joinRows, greatest}
 use Rattle.structure.specs.Layout.{decoded, rowsAt, stationsAt, structureAt}
 use Rattle.structure.proofs.Cuts.{join-comm, join-assoc}
 use Rattle.structure.proofs.Rows.{is-none, is-some, first-at}
-use Rattle.structure.proofs.Places.{rows-add, row-room}
+use Rattle.structure.proofs.Places.{rows-add, one-more, row-fits}
 
 join-row-append : (l k : List (Option Cut)) (g : Cut) → joinRow (l ++ k) g ≡ joinRow l (joinRow k g)
 unfolding joinRow
@@ -50,17 +48,17 @@ module _ (n e : ℕ) (w : List ℕ) (at : ℕ) where
       ∙ ap₂ (λ (x : ℕ) (y : List ℕ). joinRow (rowsAt n x y) (take n (drop at w))) t′ (drop-drop n at w ∙ ap (λ (x : ℕ). drop x w) (sym s)))
 
   pub least-room : (l : ℕ) → at + (e + 1) * n ≤ l → at + n ≤ l
-  least-room l r = omega (arith, row-room n e at 0 l (omega arith) (rw (add-one e) at r))
+  least-room l r = omega (arith, row-fits 0 e n (omega arith))
 
   module _ (k : ℕ) (h : k < e) (g : Cut) where
     pub event-room : (l : ℕ) → at + (e + 1) * n ≤ l → at + (k + 1) * n + n ≤ l
-    event-room l r = row-room n e at (k + 1) l (omega arith) (rw (add-one e) at r)
+    event-room l r = omega (arith, row-fits (k + 1) e n (omega arith))
 
     here : rest n e w at k g ≡ joinRow (decoded (take n (drop (at + (k + 1) * n) w)) ∷ rowsAt n (e - (k + 1)) (drop (at + (k + 1 + 1) * n) w)) g
     unfolding rowsAt
     here =
         let q : e - k ≡ suc (e - (k + 1)) = omega arith in
-        let s : at + (k + 1) * n + n ≡ at + (k + 1 + 1) * n = omega (arith, ap (λ (x : ℕ). x * n) (add-one (k + 1)) ∙ suc-mul (k + 1) n) in
+        let s : at + (k + 1) * n + n ≡ at + (k + 1 + 1) * n = omega (arith, one-more (k + 1) n) in
         rw (q, ← s, ← drop-drop n (at + (k + 1) * n) w)
 
     pub passes-none : 0 < n → getD w (at + (k + 1) * n) 0 ≡ 255 → rest n e w at k g ≡ rest n e w at (k + 1) g

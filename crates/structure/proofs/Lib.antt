@@ -1,4 +1,5 @@
 -- Laws that the proofs share, and those that other crates use.
+pub mod Parts
 pub mod Cuts
 pub mod Stores
 pub mod Rows
@@ -6,5 +7,6 @@ pub mod Places
 pub mod Raising
 pub mod Joining
 pub mod Bars
+pub mod Listed
 pub mod Standing
 pub mod FromLaid

@@ -1,8 +1,9 @@
 -- Where the row of an event stands: behind the least cut, the rows of the stations before, and those of the events before.
-use mathlib.Core.Path.{_≡_, refl, ap, _∙_}
+use mathlib.Core.Path.{_≡_, refl, sym, ap, _∙_}
 use Prim.Native.Nat.{ℕ, zero, suc, _+_, _*_, _≤_, _<_}
 use native.Mathlib.Nat.{suc-add, zero-add, suc-mul, zero-mul, add-mul, mul-le-mul-right, le-of-suc-le-suc}
 use native.Mathlib.Decide.{decLt}
+use native.Mathlib.Numerals.{add-one}
 use native.Mathlib.Omega.{arith}
 use mathlib.Core.List.{List, [], _∷_, _++_}
 use mathlib.Core.Option.{Option, none}
@@ -80,14 +81,20 @@ module _ (n : ℕ) (counts w bs : List ℕ) (j : ℕ) where
           ap (λ (r : List (Option (List ℕ))). getD r k none) (station-at n counts (drop n w) j h)
           ∙ List·getD-eq-default (rowsAt n (getD counts j 0) d) none (rw length-rows (le-of-suc-le-suc l))
 
--- A station's events are among all.
-pub total-take : (counts : List ℕ) (j : ℕ) → total (take j counts) + getD counts j 0 ≤ total counts
-unfolding sum
-total-take [] zero = omega arith
-total-take [] (suc j) = omega arith
-total-take (m ∷ counts) zero = omega arith
-total-take (m ∷ counts) (suc j) = omega (arith, total-take counts j)
+-- SIZES
 
--- The n cells of row k lie within.
-pub row-room : (n e at k l : ℕ) → k ≤ e → at + suc e * n ≤ l → at + k * n + n ≤ l
-row-room n e at k l h r = omega (arith, mul-le-mul-right n h, suc-mul e n)
+-- One part of s cells more.
+pub one-more : (i s : ℕ) → (i + 1) * s ≡ i * s + s
+one-more i s = ap (λ (x : ℕ). x * s) (add-one i) ∙ suc-mul i s
+
+-- The cells of a structure of e events.
+pub cells-are : (n e : ℕ) (counts : List ℕ) → total counts ≡ e → cells n counts ≡ (e + 1) * n
+cells-are n e counts t = ap (λ (x : ℕ). suc x * n) t ∙ ap (λ (x : ℕ). x * n) (sym (add-one e))
+
+-- The i-th of k parts of s cells lies within them.
+pub next-fits : (i k s : ℕ) → i < k → i * s + s ≤ k * s
+next-fits i k s h = omega (arith, mul-le-mul-right s h, suc-mul i s)
+
+-- Row i of e events.
+pub row-fits : (i e n : ℕ) → i ≤ e → i * n + n ≤ (e + 1) * n
+row-fits i e n h = next-fits i (e + 1) n (omega arith)

@@ -4,18 +4,19 @@ use Prim.Native.Nat.{ℕ, zero, suc, _+_, _-_, _*_, _≤_, _<_}
 use native.Mathlib.Nat.{mul-le-mul-right}
 use native.Mathlib.Numerals.{add-one}
 use native.Mathlib.Omega.{arith}
-use mathlib.Core.List.{List, [], _∷_}
+use mathlib.Core.List.{List}
 use mathlib.Core.Option.{Option, none, some}
 use lib.ListN.{length, getD, take, drop, replicate, length-drop}
 use lib.Seq.{take-take, drop-drop, length-take-le, getD-take}
-use Rattle.model.specs.Lists.{sum, total}
+use Rattle.model.specs.Lists.{total}
 use Rattle.model.specs.Cut.{Cut, join}
 use Rattle.model.specs.Structure.{Structure, row, joined, raiseBy, raise}
+use Rattle.lattice.proofs.Sums.{total-suc, total-take}
 use Rattle.structure.specs.Layout.{decoded, structureAt, placed, cells}
 use Rattle.structure.specs.Stations.{Stations}
 use Rattle.structure.proofs.Cuts.{join-self, join-swap, join-zeros}
 use Rattle.structure.proofs.Rows.{is-none, is-some, decoded-rows, first-at}
-use Rattle.structure.proofs.Places.{row-place, row-past, total-take, row-room}
+use Rattle.structure.proofs.Places.{row-place, row-past, next-fits}
 
 joined-none : (x : Option Cut) → joined x none ≡ none
 unfolding joined
@@ -103,7 +104,7 @@ module _ (n : ℕ) (counts offs w : List ℕ) (at j count : ℕ) (acc : List ℕ
 
 -- A row that has its n cells.
 pub cells-room : (n : ℕ) (counts : List ℕ) (at l : ℕ) → at + cells n counts ≤ l → at + total counts * n + n ≤ l
-cells-room n counts at l room = row-room n (total counts) at (total counts) l (omega arith) room
+cells-room n counts at l room = omega (arith, next-fits (total counts) (suc (total counts)) n (omega arith))
 
 -- Before the first station: the least cut.
 pub raise-start : (n : ℕ) (counts : List ℕ) (at : ℕ) (w cut acc : List ℕ) → 0 < n → n ≤ 8 → at + n ≤ length w
@@ -115,19 +116,12 @@ raise-start n counts at w cut acc z h room f e bs =
     ∙ is-some n (drop at w) z (λ g. f (sym (first-at w at) ∙ g))
 
 -- The events of all stations, from what is known of the last.
-total-more : (l : List ℕ) (j : ℕ) → total (take (suc j) l) ≡ total (take j l) + getD l j 0
-unfolding sum
-total-more [] zero = refl
-total-more [] (suc j) = refl
-total-more (x ∷ l) zero = omega arith
-total-more (x ∷ l) (suc j) = omega (arith, total-more l j)
-
 pub total-last : (n : ℕ) (counts offs : List ℕ) → Stations n counts offs → total (take n counts) ≡ getD offs (n - 1) 0 + getD counts (n - 1) 0
 total-last n counts offs s =
     let z : 0 < n = s .some-station in
     let q : n ≡ suc (n - 1) = omega arith in
     ap total (sym (take-take n n counts (omega arith)) ∙ ap (λ (x : ℕ). take x (take n counts)) q)
-    ∙ total-more (take n counts) (n - 1)
+    ∙ total-suc (take n counts) (n - 1)
     ∙ ap₂ (λ (x y : ℕ). x + y) (sym (s .offs-are (n - 1) (omega arith))) (getD-take n counts (n - 1) 0 (omega arith))
 
 -- After the last.

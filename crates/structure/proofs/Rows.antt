@@ -1,5 +1,5 @@
 -- Laws of rows that may be none: the larger byte is 255 just where one of the two is.
-use mathlib.Core.Path.{_≡_, refl, _∙_}
+use mathlib.Core.Path.{_≡_, refl, sym, _∙_}
 use Prim.Native.Nat.{ℕ, _≤_, _<_, max}
 use native.Mathlib.Decide.{decLt}
 use native.Mathlib.Omega.{arith}
@@ -14,13 +14,19 @@ use Rattle.model.specs.Cut.{Cut, join}
 use Rattle.model.specs.Structure.{joined}
 use Rattle.structure.specs.Layout.{decoded}
 
-pub is-none : (n : ℕ) (l : List ℕ) → 0 < n → getD l 0 0 ≡ 255 → decoded (take n l) ≡ none
+pub decoded-none : (x : List ℕ) → getD x 0 0 ≡ 255 → decoded x ≡ none
 unfolding decoded
-is-none n l h e = rw (getD-take n l 0 0 h, e)
+decoded-none x e = rw (eq-eqb (getD x 0 0) 255 e)
+
+pub decoded-some : (x : List ℕ) → (getD x 0 0 ≡ 255 → ⊥) → decoded x ≡ some x
+unfolding decoded
+decoded-some x f = rw (ne-eqb (getD x 0 0) 255 f)
+
+pub is-none : (n : ℕ) (l : List ℕ) → 0 < n → getD l 0 0 ≡ 255 → decoded (take n l) ≡ none
+is-none n l h e = decoded-none (take n l) (getD-take n l 0 0 h ∙ e)
 
 pub is-some : (n : ℕ) (l : List ℕ) → 0 < n → (getD l 0 0 ≡ 255 → ⊥) → decoded (take n l) ≡ some (take n l)
-unfolding decoded
-is-some n l h f = rw (getD-take n l 0 0 h, ne-eqb (getD l 0 0) 255 f)
+is-some n l h f = decoded-some (take n l) (λ e. f (sym (getD-take n l 0 0 h) ∙ e))
 
 -- Cells that say a cut are this cut.
 pub decoded-is : (c d : Cut) → decoded c ≡ some d → c ≡ d

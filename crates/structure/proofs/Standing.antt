@@ -1,34 +1,18 @@
 -- What stands in a workspace depends only on the cells that it covers; and structures behind structures.
 use mathlib.Core.Path.{_≡_, refl, sym, ap, ap₂, _∙_}
-use Prim.Native.Nat.{ℕ, zero, suc, _+_, _-_, _*_, _≤_, _<_}
+use Prim.Native.Nat.{ℕ, zero, suc, _+_, _*_, _≤_, _<_}
 use native.Mathlib.Nat.{zero-add, suc-add, zero-mul, suc-mul, add-mul}
 use native.Mathlib.Numerals.{add-one}
 use native.Mathlib.Omega.{arith}
 use mathlib.Core.List.{List, [], _∷_, _++_}
 use mathlib.Core.Option.{Option}
 use lib.ListN.{length, getD, take, drop}
-use lib.Seq.{take-nil, take-take, drop-drop, getD-take, take-append-le}
+use lib.Seq.{drop-drop, take-append-le}
 use Rattle.model.specs.Lists.{sum, total}
 use Rattle.model.specs.Cut.{Cut}
 use Rattle.model.specs.Structure.{Structure}
 use Rattle.structure.specs.Layout.{rowsAt, stationsAt, barsAt, structureAt, cells, barCells, standing}
-
-pub drop-take : (a b : ℕ) (l : List ℕ) → drop a (take (a + b) l) ≡ take b (drop a l)
-drop-take zero b l = rw zero-add
-drop-take (suc a) b [] = rw suc-add (sym (take-nil b))
-drop-take (suc a) b (x ∷ l) = rw suc-add (drop-take a b l)
-
--- Two lists that agree on their first c cells agree on the first a of them and on the b after those.
-module _ (a b c : ℕ) (w v : List ℕ) (s : a + b ≡ c) (e : take c w ≡ take c v) where
-  pub front-same : take a w ≡ take a v
-  front-same = sym (take-take a c w (omega arith)) ∙ ap (take a) e ∙ take-take a c v (omega arith)
-
-  pub back-same : take b (drop a w) ≡ take b (drop a v)
-  back-same =
-      sym (drop-take a b w) ∙ ap (λ (x : ℕ). drop a (take x w)) s ∙ ap (drop a) e ∙ ap (λ (x : ℕ). drop a (take x v)) (sym s) ∙ drop-take a b v
-
-pub cell-kept : (at o : ℕ) (w v : List ℕ) → at < o → take o w ≡ take o v → getD w at 0 ≡ getD v at 0
-cell-kept at o w v h e = sym (getD-take o w at 0 h) ∙ ap (λ (l : List ℕ). getD l at 0) e ∙ getD-take o v at 0 h
+use Rattle.structure.proofs.Parts.{front-same, part-same, cell-same}
 
 behind : (n m : ℕ) → n + m * n ≡ suc m * n
 behind n m = omega (arith, suc-mul m n)
@@ -37,25 +21,28 @@ pub rows-same : (n m : ℕ) (w v : List ℕ) → take (m * n) w ≡ take (m * n)
 unfolding rowsAt
 rows-same n zero w v e = refl
 rows-same n (suc m) w v e =
-    rw (front-same n (m * n) (suc m * n) w v (behind n m) e, rows-same n m (drop n w) (drop n v) (back-same n (m * n) (suc m * n) w v (behind n m) e))
+    let s = behind n m in
+    rw (front-same (suc m * n) w v e n (omega arith), rows-same n m (drop n w) (drop n v) (part-same (suc m * n) w v e n (m * n) (omega arith)))
 
 pub stations-same : (n : ℕ) (counts w v : List ℕ) → take (total counts * n) w ≡ take (total counts * n) v → stationsAt n counts w ≡ stationsAt n counts v
 unfolding stationsAt sum
 stations-same n [] w v e = refl
 stations-same n (m ∷ counts) w v e =
-    let t : m * n + total counts * n ≡ (m + total counts) * n = sym (add-mul m (total counts) n) in
+    let t = add-mul m (total counts) n in
+    let c = (m + total counts) * n in
     rw (
-      rows-same n m w v (front-same (m * n) (total counts * n) ((m + total counts) * n) w v t e),
-      stations-same n counts (drop (m * n) w) (drop (m * n) v) (back-same (m * n) (total counts * n) ((m + total counts) * n) w v t e),
+      rows-same n m w v (front-same c w v e (m * n) (omega arith)),
+      stations-same n counts (drop (m * n) w) (drop (m * n) v) (part-same c w v e (m * n) (total counts * n) (omega arith)),
     )
 
 pub bars-same : (n m : ℕ) (w v : List ℕ) → 0 < n → take (m * n) w ≡ take (m * n) v → barsAt n m w ≡ barsAt n m v
 unfolding barsAt
 bars-same n zero w v z e = refl
 bars-same n (suc m) w v z e =
-    let f : take n w ≡ take n v = front-same n (m * n) (suc m * n) w v (behind n m) e in
-    let g : getD w 0 0 ≡ getD v 0 0 = sym (getD-take n w 0 0 z) ∙ ap (λ (l : List ℕ). getD l 0 0) f ∙ getD-take n v 0 0 z in
-    let h : barsAt n m (drop n w) ≡ barsAt n m (drop n v) = bars-same n m (drop n w) (drop n v) z (back-same n (m * n) (suc m * n) w v (behind n m) e) in
+    let s = behind n m in
+    let f : take n w ≡ take n v = front-same (suc m * n) w v e n (omega arith) in
+    let g : getD w 0 0 ≡ getD v 0 0 = cell-same n w v f 0 z in
+    let h : barsAt n m (drop n w) ≡ barsAt n m (drop n v) = bars-same n m (drop n w) (drop n v) z (part-same (suc m * n) w v e n (m * n) (omega arith)) in
     rw (f, g, h)
 
 module _ (n : ℕ) (counts : List ℕ) where
@@ -64,8 +51,8 @@ module _ (n : ℕ) (counts : List ℕ) where
   set-same w v bs e =
       let t = behind n (total counts) in
       ap₂ (λ (l : Cut) (r : List (List (Option Cut))). record { least = l; rows = r; bars = barsAt n 16 bs })
-      (front-same n (total counts * n) (cells n counts) w v t e)
-      (stations-same n counts (drop n w) (drop n v) (back-same n (total counts * n) (cells n counts) w v t e))
+      (front-same (cells n counts) w v e n (omega arith))
+      (stations-same n counts (drop n w) (drop n v) (part-same (cells n counts) w v e n (total counts * n) (omega arith)))
 
   pub structure-same : (w v bs bt : List ℕ) → 0 < n → take (cells n counts) w ≡ take (cells n counts) v → take (barCells n) bs ≡ take (barCells n) bt
       → structureAt n counts w bs ≡ structureAt n counts v bt
@@ -73,9 +60,7 @@ module _ (n : ℕ) (counts : List ℕ) where
 
   -- Cells before o that are kept keep a structure that stands there.
   pub set-kept : (at o : ℕ) (w v bs : List ℕ) → at + cells n counts ≤ o → take o w ≡ take o v → structureAt n counts (drop at w) bs ≡ structureAt n counts (drop at v) bs
-  set-kept at o w v bs h e =
-      let m : ℕ = at + cells n counts in
-      set-same (drop at w) (drop at v) bs (back-same at (cells n counts) m w v refl (front-same m (o - m) o w v (omega arith) e))
+  set-kept at o w v bs h e = set-same (drop at w) (drop at v) bs (part-same o w v e at (cells n counts) h)
 
   pub standing-same : (k : ℕ) (w v bs bt : List ℕ) → 0 < n → take (k * cells n counts) w ≡ take (k * cells n counts) v
       → take (k * barCells n) bs ≡ take (k * barCells n) bt → standing n counts k w bs ≡ standing n counts k v bt
@@ -87,8 +72,8 @@ module _ (n : ℕ) (counts : List ℕ) where
       let c = cells n counts in
       let b = barCells n in
       ap₂ (λ (x : Structure) (l : List Structure). x ∷ l)
-      (structure-same w v bs bt z (front-same c (k * c) (suc k * c) w v s e) (front-same b (k * b) (suc k * b) bs bt t f))
-      (standing-same k (drop c w) (drop c v) (drop b bs) (drop b bt) z (back-same c (k * c) (suc k * c) w v s e) (back-same b (k * b) (suc k * b) bs bt t f))
+      (structure-same w v bs bt z (front-same (suc k * c) w v e c (omega arith)) (front-same (suc k * b) bs bt f b (omega arith)))
+      (standing-same k (drop c w) (drop c v) (drop b bs) (drop b bt) z (part-same (suc k * c) w v e c (k * c) (omega arith)) (part-same (suc k * b) bs bt f b (k * b) (omega arith)))
 
   pub standing-add : (j k : ℕ) (w bs : List ℕ)
       → standing n counts (j + k) w bs ≡ standing n counts j w bs ++ standing n counts k (drop (j * cells n counts) w) (drop (j * barCells n) bs)

@@ -5,9 +5,10 @@ use native.Mathlib.Numerals.{add-one}
 use native.Mathlib.Omega.{arith}
 use mathlib.Core.List.{List, [], _∷_, _++_, append-nil}
 use lib.ListN.{length, getD, take, drop, set, length-drop, drop-of-length-le}
-use lib.Seq.{take-suc, drop-cons, set-at, append-snoc, length-take-le, getD-drop, getD-at, take-all, take-at, take-take, paste, paste-suc}
+use lib.Seq.{take-suc, drop-cons, set-at, append-snoc, length-take-le, getD-drop, getD-at, take-all, take-at, take-take}
 use Rattle.model.specs.Cut.{Cut, join}
-use Rattle.structure.proofs.Cuts.{length-join, join-snoc, take-join}
+use Rattle.lattice.proofs.Cuts.{length-join}
+use Rattle.structure.proofs.Cuts.{join-snoc, take-join}
 
 pub take-more : (a : List ℕ) (i : ℕ) → i < length a → take (i + 1) a ≡ take i a ++ (getD a i 0 ∷ [])
 take-more a i h = rw add-one (take-suc a i 0 h)
@@ -22,19 +23,6 @@ copy-step f o i h l = rw (take-more f i h) (put-step (take i f) o (getD f i 0) i
 pub copy-end : (f o : List ℕ) (i : ℕ) → length f ≡ i → length o ≡ i → take i f ++ drop i o ≡ f
 copy-end f o i e l = rw (take-all i f (omega arith), drop-of-length-le o {i = i} (omega arith)) (append-nil f)
 
-pub cells-step : (w o : List ℕ) (at i : ℕ) (t : List ℕ) → t ≡ take i (drop at w) ++ drop i o → at + i < length w → i < length o
-    → set t i (getD w (at + i) 0) ≡ take (i + 1) (drop at w) ++ drop (i + 1) o
-cells-step w o at i t e h l =
-    let d : i < length (drop at w) = rw length-drop (omega arith) in
-    rw (e, ← getD-drop at w i 0) (copy-step (drop at w) o i d l)
-
-pub cells-end : (w o : List ℕ) (at n : ℕ) (t : List ℕ) → t ≡ take n (drop at w) ++ drop n o → at + n ≤ length w → take n t ≡ take n (drop at w)
-cells-end w o at n t e h = rw e (take-at (take n (drop at w)) (drop n o) n (length-take-le n (drop at w) (rw length-drop (omega arith))))
-
-pub paste-step : (w : List ℕ) (at : ℕ) (s : List ℕ) (i : ℕ) (t : List ℕ) → t ≡ paste w at s i → at + i < length w → i < length s
-    → set t (at + i) (getD s i 0) ≡ paste w at s (i + 1)
-paste-step w at s i t e h l = rw (e, add-one i) (paste-suc w at s i 0 h l)
-
 -- The first i counts of a joined with those of r, then what z has.
 abbrev pub joining : Cut → Cut → Cut → ℕ → Cut
 joining a r z i = join (take i a) (take i r) ++ drop i z
@@ -43,7 +31,7 @@ length-joining : (a r : Cut) (i : ℕ) → i ≤ length a → i ≤ length r →
 length-joining a r i h l =
     let u : length (take i a) ≡ i = length-take-le i a h in
     let v : length (take i r) ≡ i = length-take-le i r l in
-    length-join (take i a) (take i r) (omega arith) ∙ u
+    omega (arith, length-join (take i a) (take i r))
 
 module _ (a w z : List ℕ) (at i : ℕ) (h : i < length a) (l : at + i < length w) (k : i < length z) where
   in-row : i < length (drop at w)

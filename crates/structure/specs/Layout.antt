@@ -23,6 +23,11 @@ unfoldable pub stationsAt : ℕ → List ℕ → List ℕ → List (List (Option
 stationsAt n [] ws = []
 stationsAt n (m ∷ counts) ws = rowsAt n m ws ∷ stationsAt n counts (drop (m * n) ws)
 
+-- m cuts at the front of ws.
+unfoldable pub cutsAt : ℕ → ℕ → List ℕ → List Cut
+cutsAt n zero ws = []
+cutsAt n (suc m) ws = take n ws ∷ cutsAt n m (drop n ws)
+
 -- At most m bars at the front of bs, up to a slot that is not used: its first cell is 255.
 unfoldable pub barsAt : ℕ → ℕ → List ℕ → List Cut
 barsAt n zero bs = []

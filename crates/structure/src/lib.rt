@@ -1,5 +1,6 @@
 // Structures in a workspace: raising a cut, the greatest cut, the bars.
 ghost use mathlib.Core.Path.{_≡_};
+ghost use mathlib.Core.Logic.{_⊎_};
 ghost use mathlib.Core.List.{List, _++_};
 ghost use Prim.Native.Nat.{ℕ, _+_, _*_, _≤_, _<_, max};
 ghost use lib.ListN.{length, getD, take, drop};
@@ -40,30 +41,38 @@ pub fn copy_cut(out: &mut [u8], from: &[u8])
     }
 }
 
+// The len cells of src from `from` on, copied to `at`.
+pub fn copy(ws: &mut [u8], at: usize, src: &[u8], from: usize, len: usize)
+    requires { ⌜ (at + len ≤ length (now ws)) × (from + len ≤ length (now src)) ⌝ }
+    ensures { λ _. ⌜ now (ws .exit) ≡ paste (now (ws .entry)) at (drop from (now (src .entry))) len ⌝ }
+{
+    let mut i = 0;
+    while i < len {
+        ws[at + i] = src[from + i];
+        i += 1;
+    }
+}
+
+// The len cells from `from` on, copied to `to`.
+pub fn shift(ws: &mut [u8], from: usize, to: usize, len: usize)
+    requires { ⌜ (from + len ≤ length (now ws)) × (to + len ≤ length (now ws)) × ((from + len ≤ to) ⊎ (to ≤ from)) ⌝ }
+    ensures { λ _. ⌜ now (ws .exit) ≡ paste (now (ws .entry)) to (drop from (now (ws .entry))) len ⌝ }
+{
+    let mut i = 0;
+    while i < len {
+        ws[to + i] = ws[from + i];
+        i += 1;
+    }
+}
+
 // The n cells at a place, and then 0.
 pub fn cut_at(ws: &[u8], at: usize, n: usize) -> [u8; 8]
     requires { ⌜ (n ≤ 8) × (at + n ≤ length (now ws)) ⌝ }
     ensures { λ r. ⌜ (take n r ≡ take n (drop at (now (ws .entry)))) × (length r ≡ 8) ⌝ }
 {
     let mut out = [0u8; 8];
-    let mut i = 0;
-    while i < n {
-        out[i] = ws[at + i];
-        i += 1;
-    }
+    copy(&mut out, 0, ws, at, n);
     out
-}
-
-// The first n bytes of a cut, written to a place.
-pub fn put_cut(ws: &mut [u8], at: usize, n: usize, cut: &[u8])
-    requires { ⌜ (n ≤ length (now cut)) × (at + n ≤ length (now ws)) ⌝ }
-    ensures { λ _. ⌜ now (ws .exit) ≡ paste (now (ws .entry)) at (now (cut .entry)) n ⌝ }
-{
-    let mut i = 0;
-    while i < n {
-        ws[at + i] = cut[i];
-        i += 1;
-    }
 }
 
 // Joined with the eight cells at a place: all are read before the first is written.

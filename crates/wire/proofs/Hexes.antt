@@ -7,6 +7,7 @@ use native.Mathlib.Numerals.{add-one}
 use lib.ListN.{length, take, set, getD, length-append}
 use lib.Seq.{length-take-le, take-suc}
 use Rattle.model.specs.Bytes.{hex, checkByte, line}
+use Rattle.codec.proofs.Hex.{length-hex}
 use Rattle.wire.specs.Put.{putOf}
 use Rattle.wire.proofs.Puts.{put-one, put-put}
 
@@ -14,15 +15,6 @@ pub hex-append : (a b : List ℕ) → hex (a ++ b) ≡ hex a ++ hex b
 unfolding hex
 hex-append [] b = refl
 hex-append (x ∷ a) b = rw (hex-append a b)
-
-pub length-hex : (f : List ℕ) → length (hex f) ≡ 2 * length f
-unfolding hex
-length-hex [] = refl
-length-hex (x ∷ f) = omega (arith, length-hex f)
-
-pub length-line : (f : List ℕ) → length (line f) ≡ 2 * length f + 3
-unfolding line
-length-line f = simp (length-append, length-hex) (omega arith)
 
 hex-step : (s : List ℕ) (k : ℕ) → k < length s → hex (take (k + 1) s) ≡ hex (take k s) ++ hex (getD s k 0 ∷ [])
 hex-step s k h = rw (add-one, take-suc s k 0 h) (hex-append (take k s) (getD s k 0 ∷ []))

@@ -1,5 +1,5 @@
 -- The walk over a line: what holds before each pair, and what each thing that it meets comes to.
-use mathlib.Core.Path.{_≡_, ap, _∙_}
+use mathlib.Core.Path.{_≡_, refl, ap, _∙_}
 use mathlib.Core.List.{List, [], _∷_, _++_, append-nil}
 use mathlib.Core.Option.{some}
 use Prim.Native.Nat.{ℕ, _+_, _*_, _%_, _≤_, _<_}
@@ -7,13 +7,13 @@ use native.Mathlib.Omega.{arith}
 use native.Mathlib.Numerals.{add-one}
 use lib.ListN.{length, take, drop, set, length-append, length-drop, length-set, drop-of-length-le}
 use lib.Seq.{take-suc-set, drop-drop, length-take-le}
-use Rattle.model.specs.Lists.{total}
+use Rattle.model.specs.Lists.{sum, total}
 use Rattle.model.specs.Bytes.{more, linesOf, bytes}
+use Rattle.lattice.proofs.Sums.{sum-snoc}
 use Rattle.wire.specs.Pairs.{pairOf}
 use Rattle.wire.specs.Walked.{Framed, Spoilt}
 use Rattle.wire.specs.declared.Pair.the-variants.{Byte, End, Broken}
 use Rattle.wire.proofs.Fronts.{Front, front-none, front-join, front-pair, lines-end, pushes, pushes-more, ahead}
-use Rattle.wire.proofs.Sums.{total-none, total-one, total-append}
 use Rattle.wire.proofs.Refusals.{Refused, refused-faulty, refused-many, refused-few, refused-broken}
 
 -- ---- before each pair: the first k of out are the bytes from `at` to i, and sum is theirs
@@ -27,13 +27,14 @@ pub record Walking (log : List ℕ) (at : ℕ) (out : List ℕ) (k s i : ℕ) : 
   pub front : Front (take k out) (drop at log) (drop i log)
 
 pub walk-start : (log : List ℕ) (at : ℕ) (out : List ℕ) → at < length log → length out ≡ 100 → Walking log at out 0 0 at
+unfolding sum
 walk-start log at out h r = record {
   starts = h;
   place = omega arith;
   inside = omega arith;
   few = omega arith;
   room = r;
-  adds = omega (arith, total-none);
+  adds = refl;
   front = front-none (drop at log);
 }
 
@@ -53,7 +54,7 @@ walk-byte {log} {out} {at} {k} {s} {i} {v} w e n =
       inside = omega (arith, length-drop i log, length-drop 2 (drop i log), front-pair (drop i log) v e .long, front-pair (drop i log) v e .two);
       few = omega arith;
       room = length-set out k v ∙ w .room;
-      adds = rw (t, total-append (take k out) (v ∷ []), total-one v) (omega (arith, w .adds));
+      adds = rw (t, sum-snoc (λ x. x) (take k out) v) (omega (arith, w .adds));
       front = rw t (pair-more w e);
     }
 

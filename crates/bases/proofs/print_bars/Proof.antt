@@ -2,7 +2,7 @@
 use Prim.Native.Nat.{_+_, _*_, _≤_, _-_}
 use native.Mathlib.Omega.{arith}
 use lib.ListN.{length}
-use Rattle.steps.proofs.Parts.{next-fits}
+use Rattle.structure.proofs.Places.{next-fits}
 use borrow.Author.Needs.{needs}
 use Rattle.bases.proofs.print_bars.Statement.{statement}
 use Rattle.bases.proofs.print_bars.Tie as tie

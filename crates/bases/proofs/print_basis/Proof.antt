@@ -1,6 +1,6 @@
 -- `bases::print_basis`: there is room for the basis, and it has at most 16 structures. Assumes nothing.
 use native.Mathlib.Omega.{arith}
-use Rattle.verdict.proofs.Bases.{cells-few, bars-few, count-few, room}
+use Rattle.verdict.proofs.Bases.{count-few, room, stands}
 use borrow.Author.Needs.{needs}
 use Rattle.bases.proofs.print_basis.Statement.{statement}
 use Rattle.bases.proofs.print_basis.Tie as tie
@@ -20,8 +20,8 @@ print-structures-requires c κs =
     let g = p .0 .2 in
     let l = g .laid in
     let b = c .before .before .before .before .before .before .before .before .basis-true in
-    let few = count-few g (b .ensures) in
-    (l .some-station, l .few-stations, l .few-events, few, omega (arith, cells-few _ _ _ few (l .few-stations) (l .few-events), b .kept .1 .0, p .1 .0), omega (arith, bars-few _ _ few (l .few-stations), b .kept .1 .1 .0, p .1 .1))
+    let s = stands g (b .ensures) (omega (arith, b .kept .1 .0, p .1 .0)) (omega (arith, b .kept .1 .1 .0, p .1 .1)) in
+    (l .some-station, l .few-stations, l .few-events, count-few g (b .ensures), s .cells-fit, s .bars-fit)
 
 slice-aggregate-print-count-2 : tie.Need-slice-aggregate-print-count-2
 slice-aggregate-print-count-2 c = search needs

@@ -1,7 +1,8 @@
 -- `bases::print_structures`: each structure stands in the workspace, and its bars in the bar space. Assumes nothing.
 use Prim.Native.Nat.{_+_, _*_, _≤_, _-_}
 use native.Mathlib.Omega.{arith}
-use Rattle.steps.proofs.Parts.{next-fits, size-small}
+use Rattle.structure.proofs.Places.{next-fits}
+use Rattle.steps.proofs.Parts.{size-small}
 use borrow.Author.Needs.{needs}
 use Rattle.bases.proofs.print_structures.Statement.{statement}
 use Rattle.bases.proofs.print_structures.Tie as tie

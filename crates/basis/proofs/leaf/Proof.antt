@@ -23,7 +23,7 @@ word-requires-2 c κs =
 atom-requires : tie.Need-atom-requires
 atom-requires c κs =
     let p = c .before .before .before .before .before .before .before .before .before .before .pre in
-    (record { computation = p .0 .computation; laid = p .0 .laid }, (laws.atom-station _ _ _ _ _ _ _ _ _ _ (p .0) (p .1), laws.atom-cells _ _ _ _ _ _ _ _ _ _ (p .0), laws.atom-bars _ _ _ _ _ _ _ _ _ _ (p .0)))
+    ((p .0 .computation, p .0 .laid), (laws.atom-station _ _ _ _ _ _ _ _ _ _ (p .0) (p .1), laws.atom-cells _ _ _ _ _ _ _ _ _ _ (p .0), laws.atom-bars _ _ _ _ _ _ _ _ _ _ (p .0)))
 
 same-length : tie.Need-same-length
 same-length c = search needs

@@ -1,8 +1,4 @@
 -- The bars are the greatest cuts of the structures, and the test is the one of `keep`.
-use Prim.Native.Nat.{_≤_, _*_}
-use native.Mathlib.Omega.{arith}
-use native.Mathlib.Nat.{mul-le-mul-right}
-use lib.ListN.{length}
 use Rattle.modal.proofs.Laws as laws
 use borrow.Author.Needs.{needs}
 use Rattle.modal.proofs.bar.Statement.{statement}
@@ -45,8 +41,7 @@ returns : tie.Need-returns
 returns c =
     let a = c .before .before .before .before .before .before .before .before .before .before .before .before .before .before .before .before .before .before .before .before .before .before .before .before .args in
     let p = c .before .before .before .before .before .before .before .before .before .before .before .before .before .before .before .before .before .before .before .before .before .before .before .before .pre .0 in
-    let h : a .count * a .n ≤ length (c .before .before .before .before .before .before .before .before .before .before .before .before .before .before .before .before .before .before .bar-each .last .1 .0) = omega (arith, mul-le-mul-right (a .n) (p .3), p .6, c .before .before .before .before .before .before .before .before .before .before .before .before .before .before .before .before .before .before .bar-each .kept .1 .0) in
-    laws.bar-dropped (a .n) (a .e) (a .count) (a .starts .now) (a .ws .now) (c .before .before .before .before .before .before .before .before .before .before .copy .last .0) (a .bs .now) (c .before .before .before .before .before .before .before .before .before .before .before .before .before .before .before .before .before .before .bar-each .last .1 .0) (c .before .before .before .before .before .before .before .before .before .before .before .before .before .before .end-bars .last .0) (p .0) (p .3) (p .5) (p .7) h (p .8) (c .before .before .before .before .before .before .before .before .before .before .before .before .before .before .before .before .before .before .before .before .before .before .before .before .pre .1) (c .before .before .before .before .before .before .before .before .before .before .before .before .before .before .before .before .before .before .bar-each .ensures) (c .before .before .before .before .before .before .before .before .before .before .before .before .before .before .end-bars .ensures) (c .before .before .before .before .before .before .before .before .before .before .copy .ensures) (c .before .before .before .before .before .greatest .last .1 .1 .1 .1 .0) (c .before .barred .result) (c .before .before .before .before .before .greatest .ensures) (c .before .barred .ensures) (c .if1 .taken)
+    laws.bar-dropped (a .n) (a .e) (a .count) (a .starts .now) (a .ws .now) (c .before .before .before .before .before .before .before .before .before .before .copy .last .0) (a .bs .now) (c .before .before .before .before .before .before .before .before .before .before .before .before .before .before .before .before .before .before .bar-each .last .1 .0) (c .before .before .before .before .before .before .before .before .before .before .before .before .before .before .end-bars .last .0) (p .0) (p .3) (p .7) (p .8) (c .before .before .before .before .before .before .before .before .before .before .before .before .before .before .before .before .before .before .before .before .before .before .before .before .pre .1) (c .before .before .before .before .before .before .before .before .before .before .before .before .before .before .before .before .before .before .bar-each .ensures) (c .before .before .before .before .before .before .before .before .before .before .before .before .before .before .end-bars .ensures) (c .before .before .before .before .before .before .before .before .before .before .copy .ensures) (c .before .before .before .before .before .greatest .last .1 .1 .1 .1 .0) (c .before .barred .result) (c .before .before .before .before .before .greatest .ensures) (c .before .barred .ensures) (c .if1 .taken)
 
 same-length-3 : tie.Need-same-length-3
 same-length-3 c = search needs
@@ -58,8 +53,7 @@ returns-2 : tie.Need-returns-2
 returns-2 c =
     let a = c .before .before .before .before .before .before .before .before .before .before .before .before .before .before .before .before .before .before .before .before .before .before .before .before .args in
     let p = c .before .before .before .before .before .before .before .before .before .before .before .before .before .before .before .before .before .before .before .before .before .before .before .before .pre .0 in
-    let h : a .count * a .n ≤ length (c .before .before .before .before .before .before .before .before .before .before .before .before .before .before .before .before .before .before .bar-each .last .1 .0) = omega (arith, mul-le-mul-right (a .n) (p .3), p .6, c .before .before .before .before .before .before .before .before .before .before .before .before .before .before .before .before .before .before .bar-each .kept .1 .0) in
-    laws.bar-kept (a .n) (a .e) (a .count) (a .starts .now) (a .ws .now) (c .before .before .before .before .before .before .before .before .before .before .copy .last .0) (a .bs .now) (c .before .before .before .before .before .before .before .before .before .before .before .before .before .before .before .before .before .before .bar-each .last .1 .0) (c .before .before .before .before .before .before .before .before .before .before .before .before .before .before .end-bars .last .0) (p .0) (p .3) (p .5) (p .7) h (p .8) (c .before .before .before .before .before .before .before .before .before .before .before .before .before .before .before .before .before .before .before .before .before .before .before .before .pre .1) (c .before .before .before .before .before .before .before .before .before .before .before .before .before .before .before .before .before .before .bar-each .ensures) (c .before .before .before .before .before .before .before .before .before .before .before .before .before .before .end-bars .ensures) (c .before .before .before .before .before .before .before .before .before .before .copy .ensures) (c .before .before .before .before .before .greatest .last .1 .1 .1 .1 .0) (c .before .barred .result) (c .before .before .before .before .before .greatest .ensures) (c .before .barred .ensures) (c .if1 .left)
+    laws.bar-kept (a .n) (a .e) (a .count) (a .starts .now) (a .ws .now) (c .before .before .before .before .before .before .before .before .before .before .copy .last .0) (a .bs .now) (c .before .before .before .before .before .before .before .before .before .before .before .before .before .before .before .before .before .before .bar-each .last .1 .0) (c .before .before .before .before .before .before .before .before .before .before .before .before .before .before .end-bars .last .0) (p .0) (p .3) (p .7) (p .8) (c .before .before .before .before .before .before .before .before .before .before .before .before .before .before .before .before .before .before .before .before .before .before .before .before .pre .1) (c .before .before .before .before .before .before .before .before .before .before .before .before .before .before .before .before .before .before .bar-each .ensures) (c .before .before .before .before .before .before .before .before .before .before .before .before .before .before .end-bars .ensures) (c .before .before .before .before .before .before .before .before .before .before .copy .ensures) (c .before .before .before .before .before .greatest .last .1 .1 .1 .1 .0) (c .before .barred .result) (c .before .before .before .before .before .greatest .ensures) (c .before .barred .ensures) (c .if1 .left)
 
 pub bar-spec : {M : Type 1} → statement M
 bar-spec =

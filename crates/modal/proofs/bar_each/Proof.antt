@@ -9,7 +9,8 @@ use Rattle.model.specs.Lists.{total}
 use Rattle.model.specs.Structure.{greatest}
 use Rattle.structure.specs.Layout.{structureAt}
 use Rattle.steps.specs.Rows.{rowAt}
-use Rattle.steps.proofs.Parts.{next-fits, size-small}
+use Rattle.structure.proofs.Places.{next-fits}
+use Rattle.steps.proofs.Parts.{size-small}
 use Rattle.modal.proofs.Laws as laws
 use borrow.Author.Needs.{needs}
 use Rattle.modal.proofs.bar_each.Statement.{statement}

@@ -5,7 +5,8 @@ use mathlib.Core.List.{List}
 use native.Mathlib.Omega.{arith}
 use lib.ListN.{take, drop}
 use lib.Seq.{paste}
-use Rattle.steps.proofs.Parts.{row-fits, paste-take}
+use Rattle.structure.proofs.Parts.{paste-take}
+use Rattle.structure.proofs.Places.{row-fits}
 use Rattle.modal.proofs.Laws as laws
 use borrow.Author.Needs.{needs}
 use Rattle.modal.proofs.below_row.Statement.{statement}

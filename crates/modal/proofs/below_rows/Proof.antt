@@ -5,7 +5,9 @@ use native.Mathlib.Omega.{arith}
 use native.Mathlib.Nat.{not-suc-le-zero}
 use lib.ListN.{length, take, drop}
 use Rattle.steps.specs.Rows.{rowAt, belowRow}
-use Rattle.steps.proofs.Parts.{row-fits, rows-more, paste-behind}
+use Rattle.structure.proofs.Parts.{paste-behind}
+use Rattle.structure.proofs.Places.{row-fits}
+use Rattle.steps.proofs.Parts.{rows-more}
 use Rattle.modal.proofs.Laws as laws
 use borrow.Author.Needs.{needs}
 use Rattle.modal.proofs.below_rows.Statement.{statement}
@@ -41,7 +43,7 @@ loop-again c =
     let f = row-fits (v .i) (a .e) (a .n) h in
     let l = laws.below-length (a .n) (take (a .n) (a .g .now)) (a .starts .now) (v .i) (a .e) h (p .2) in
     let k : v .i * a .n + a .n ≤ length (v .ws) = omega (arith, p .1, v .inv .1) in
-    (omega arith, c .before .before .below-row .kept .0 ∙ v .inv .1, rows-more (a .n) (belowRow (a .n) (take (a .n) (a .g .now)) (a .starts .now)) (v .i) (v .ws) (c .before .before .below-row .last .0) k l (c .before .before .below-row .ensures) (v .inv .2), ap (drop ((a .e + 1) * a .n)) (c .before .before .below-row .ensures) ∙ paste-behind (v .ws) (v .i * a .n) (belowRow (a .n) (take (a .n) (a .g .now)) (a .starts .now) (v .i)) (a .n) k (omega arith) ((a .e + 1) * a .n) f ∙ v .inv .3)
+    (omega arith, c .before .before .below-row .kept .0 ∙ v .inv .1, rows-more (a .n) (belowRow (a .n) (take (a .n) (a .g .now)) (a .starts .now)) (v .i) (v .ws) (c .before .before .below-row .last .0) k l (c .before .before .below-row .ensures) (v .inv .2), ap (drop ((a .e + 1) * a .n)) (c .before .before .below-row .ensures) ∙ paste-behind (v .ws) (v .i * a .n) (belowRow (a .n) (take (a .n) (a .g .now)) (a .starts .now) (v .i)) (a .n) (omega arith) (omega arith) ((a .e + 1) * a .n) f ∙ v .inv .3)
 
 same-length : tie.Need-same-length Inv-loop μ-loop
 same-length c = c .before .loop .inv .1

@@ -3,7 +3,8 @@ use Prim.Native.Nat.{_≤_, _+_, _-_, _*_}
 use mathlib.Core.Path.{_≡_, refl, _∙_}
 use native.Mathlib.Omega.{arith}
 use lib.ListN.{length, drop}
-use Rattle.steps.proofs.Parts.{next-fits, size-small}
+use Rattle.structure.proofs.Places.{next-fits}
+use Rattle.steps.proofs.Parts.{size-small}
 use borrow.Rule.Slice.PartMut.{same-len-mid}
 use Rattle.modal.specs.Post.{Possible}
 use Rattle.modal.proofs.Laws as laws

@@ -4,7 +4,7 @@ use mathlib.Core.Path.{_≡_, _∙_}
 use native.Mathlib.Omega.{arith}
 use lib.ListN.{length, drop}
 use Rattle.structure.specs.Layout.{barsAt}
-use Rattle.steps.proofs.Parts.{next-fits}
+use Rattle.structure.proofs.Places.{next-fits}
 use Rattle.pairs.proofs.Bars as bars
 use Rattle.pairs.proofs.count_bars.Statement.{statement}
 use Rattle.pairs.proofs.count_bars.Tie as tie

@@ -1,9 +1,9 @@
 -- The set is the intersection, the bars are those of both, and the tests are those of `build` and `keep`.
 use Prim.Native.Nat.{_+_, _*_}
 use native.Mathlib.Omega.{arith}
-use Rattle.steps.proofs.Parts.{next-fits}
+use Rattle.structure.proofs.Places.{one-more, next-fits}
 use Rattle.pairs.proofs.Putting as putting
-use Rattle.pairs.proofs.Room.{plus-one, square-small}
+use Rattle.pairs.proofs.Room.{square-small}
 use borrow.Author.Needs.{needs}
 use Rattle.pairs.proofs.pair_one.Statement.{statement}
 use Rattle.pairs.proofs.pair_one.Tie as tie
@@ -24,32 +24,32 @@ mul-intersect : tie.Need-mul-intersect
 mul-intersect c =
     let a = c .before .before .before .before .args in
     let r = c .before .before .before .before .pre .1 .1 in
-    omega (arith, next-fits (a .i) (a .o) ((a .e + 1) * a .n) (r .left), next-fits (a .j) (a .o) ((a .e + 1) * a .n) (r .right), plus-one (a .o) ((a .e + 1) * a .n), r .cells-fit)
+    omega (arith, next-fits (a .i) (a .o) ((a .e + 1) * a .n) (r .left), next-fits (a .j) (a .o) ((a .e + 1) * a .n) (r .right), one-more (a .o) ((a .e + 1) * a .n), r .cells-fit)
 
 mul-intersect-2 : tie.Need-mul-intersect-2
 mul-intersect-2 c =
     let a = c .before .before .before .before .args in
     let r = c .before .before .before .before .pre .1 .1 in
-    omega (arith, next-fits (a .i) (a .o) ((a .e + 1) * a .n) (r .left), next-fits (a .j) (a .o) ((a .e + 1) * a .n) (r .right), plus-one (a .o) ((a .e + 1) * a .n), r .cells-fit)
+    omega (arith, next-fits (a .i) (a .o) ((a .e + 1) * a .n) (r .left), next-fits (a .j) (a .o) ((a .e + 1) * a .n) (r .right), one-more (a .o) ((a .e + 1) * a .n), r .cells-fit)
 
 intersect-requires : tie.Need-intersect-requires
 intersect-requires c κs =
     let a = c .before .before .before .before .args in
     let p = c .before .before .before .before .pre in
     let r = p .1 .1 in
-    (p .0, ((p .1 .0, r .few-events), ((next-fits (a .i) (a .o) ((a .e + 1) * a .n) (r .left), r .least-left, next-fits (a .j) (a .o) ((a .e + 1) * a .n) (r .right), r .least-right), (omega (arith, plus-one (a .o) ((a .e + 1) * a .n), r .cells-fit), r .starts-fit))))
+    (p .0, ((p .1 .0, r .few-events), ((next-fits (a .i) (a .o) ((a .e + 1) * a .n) (r .left), r .least-left, next-fits (a .j) (a .o) ((a .e + 1) * a .n) (r .right), r .least-right), (omega (arith, one-more (a .o) ((a .e + 1) * a .n), r .cells-fit), r .starts-fit))))
 
 mul-join-bars : tie.Need-mul-join-bars
 mul-join-bars c =
     let a = c .before .before .before .before .before .before .before .before .args in
     let r = c .before .before .before .before .before .before .before .before .pre .1 .1 in
-    omega (arith, next-fits (a .i) (a .o) (16 * a .n) (r .left), next-fits (a .j) (a .o) (16 * a .n) (r .right), plus-one (a .o) (16 * a .n), r .bars-fit)
+    omega (arith, next-fits (a .i) (a .o) (16 * a .n) (r .left), next-fits (a .j) (a .o) (16 * a .n) (r .right), one-more (a .o) (16 * a .n), r .bars-fit)
 
 mul-join-bars-2 : tie.Need-mul-join-bars-2
 mul-join-bars-2 c =
     let a = c .before .before .before .before .before .before .before .before .args in
     let r = c .before .before .before .before .before .before .before .before .pre .1 .1 in
-    omega (arith, next-fits (a .i) (a .o) (16 * a .n) (r .left), next-fits (a .j) (a .o) (16 * a .n) (r .right), plus-one (a .o) (16 * a .n), r .bars-fit)
+    omega (arith, next-fits (a .i) (a .o) (16 * a .n) (r .left), next-fits (a .j) (a .o) (16 * a .n) (r .right), one-more (a .o) (16 * a .n), r .bars-fit)
 
 mul-join-bars-3 : tie.Need-mul-join-bars-3
 mul-join-bars-3 c = search needs
@@ -59,7 +59,7 @@ join-bars-requires c κs =
     let a = c .before .before .before .before .before .before .before .before .args in
     let p = c .before .before .before .before .before .before .before .before .pre in
     let r = p .1 .1 in
-    (p .0 .some-station, p .0 .few-stations, next-fits (a .i) (a .o) (16 * a .n) (r .left), next-fits (a .j) (a .o) (16 * a .n) (r .right), omega (arith, plus-one (a .o) (16 * a .n), r .bars-fit), r .bars)
+    (p .0 .some-station, p .0 .few-stations, next-fits (a .i) (a .o) (16 * a .n) (r .left), next-fits (a .j) (a .o) (16 * a .n) (r .right), omega (arith, one-more (a .o) (16 * a .n), r .bars-fit), r .bars)
 
 slice-read-if1 : tie.Need-slice-read-if1
 slice-read-if1 c = search needs

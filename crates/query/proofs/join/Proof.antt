@@ -20,7 +20,7 @@ enum-told : tie.Need-enum-told
 enum-told c = search needs
 
 returns : tie.Need-returns
-returns c = λ p q e o. join-wide-left _ p q (sym (c .enum-told .given .1) ∙ e)
+returns c = λ p q e o. join-wide-left (c .before .before .args .pair) p q (sym (c .enum-told .given .1) ∙ e)
 
 enum-known-b : tie.Need-enum-known-b
 enum-known-b c = search needs
@@ -29,7 +29,7 @@ enum-told-2 : tie.Need-enum-told-2
 enum-told-2 c = search needs
 
 returns-2 : tie.Need-returns-2
-returns-2 c = λ p q e o. join-wide-right _ p q (sym (c .enum-told2 .given .1) ∙ o)
+returns-2 c = λ p q e o. join-wide-right (c .before .before .before .before .before .args .pair) p q (sym (c .enum-told2 .given .1) ∙ o)
 
 mul-limit : tie.Need-mul-limit
 mul-limit c = let f = fit (c .before) in omega (arith, mul-le-mul (f .0 .0) (f .1 .0))

@@ -12,7 +12,7 @@ enum-told : tie.Need-enum-told
 enum-told c = search needs
 
 returns : tie.Need-returns
-returns c = λ p e. lift-wide _ p (sym (c .enum-told .given .1) ∙ e)
+returns c = λ p e. lift-wide (c .before .before .args .keep) p (sym (c .enum-told .given .1) ∙ e)
 
 returns-2 : tie.Need-returns-2
 returns-2 c = λ p e. rw (c .if1 .taken) (lift-keep p _ _ (sym (c .before .before .a .given .1) ∙ e))

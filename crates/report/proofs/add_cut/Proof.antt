@@ -3,7 +3,7 @@ use Prim.Native.Nat.{_+_, _≤_}
 use native.Mathlib.Nat.{mul-le-mul-right, le-mul-of-pos-right}
 use native.Mathlib.Omega.{arith}
 use lib.ListN.{take}
-use Rattle.report.specs.Cuts.{cutsAt}
+use Rattle.structure.specs.Layout.{cutsAt}
 use Rattle.report.proofs.Cuts.{within}
 use Rattle.report.proofs.Adding.{adds-nothing, adds-one}
 use borrow.Author.Needs.{needs}

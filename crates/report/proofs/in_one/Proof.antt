@@ -4,7 +4,7 @@ use Prim.Native.Nat.{_≤_, _-_, _*_}
 use native.Mathlib.Omega.{arith}
 use lib.ListN.{take, drop}
 use Rattle.model.specs.Cut.{insideAny}
-use Rattle.report.specs.Cuts.{cutsAt}
+use Rattle.structure.specs.Layout.{cutsAt}
 use Rattle.report.proofs.Cuts.{cuts-all, within}
 use Rattle.report.proofs.Adding as adding
 use borrow.Author.Needs.{needs}

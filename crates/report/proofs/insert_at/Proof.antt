@@ -3,7 +3,7 @@ use mathlib.Core.Path.{ap, _∙_}
 use Prim.Native.Nat.{_+_}
 use native.Mathlib.Nat.{mul-le-mul-right}
 use native.Mathlib.Omega.{arith}
-use Rattle.report.specs.Cuts.{cutsAt}
+use Rattle.structure.specs.Layout.{cutsAt}
 use Rattle.report.proofs.Cuts.{within, cuts-insert}
 use borrow.Author.Needs.{needs}
 use Rattle.report.proofs.insert_at.Statement.{statement}
@@ -24,13 +24,13 @@ shift-up-requires c κs =
     let s = c .before .before .before in
     omega (arith, mul-le-mul-right (s .args .n) (s .pre .1), within (s .args .n) (s .args .count) (s .args .count + 1) (omega arith) (s .pre .2))
 
-mul-put-cut : tie.Need-mul-put-cut
-mul-put-cut c =
+mul-copy : tie.Need-mul-copy
+mul-copy c =
     let s = c .before .before .before .before .before .before .before in
     omega (arith, within (s .args .n) (s .args .place) (s .args .count + 1) (omega arith) (s .pre .2))
 
-put-cut-requires : tie.Need-put-cut-requires
-put-cut-requires c κs =
+copy-requires : tie.Need-copy-requires
+copy-requires c κs =
     let s = c .before .before .before .before .before .before .before in
     omega (arith, c .before .before .before .shift-up .kept .0, within (s .args .n) (s .args .place) (s .args .count + 1) (omega arith) (s .pre .2))
 
@@ -42,7 +42,7 @@ returns c =
     let u = c .before .before .before .before .before .before .shift-up in
     let s = c .before .before .before .before .before .before .before .before .before .before in
     let a = s .args in
-    ap (cutsAt (a .n) (a .count + 1)) (c .before .before .put-cut .ensures)
+    ap (cutsAt (a .n) (a .count + 1)) (c .before .before .copy .ensures)
     ∙ cuts-insert (a .cuts .now) (u .last .0) (a .cut .now) (a .n) (a .place) (a .count) (s .pre .1) (s .pre .2) (u .kept .0) (s .pre .0) (u .ensures .0) (u .ensures .1)
 
 pub insert-at-spec : {M : Type 1} → statement M
@@ -52,7 +52,7 @@ insert-at-spec =
     mul-shift-up
     mul-shift-up-2
     shift-up-requires
-    mul-put-cut
-    put-cut-requires
+    mul-copy
+    copy-requires
     same-length
     returns)

@@ -9,7 +9,7 @@ use Rattle.model.specs.Lists.{total}
 use Rattle.model.specs.Structure.{Structure, greatest}
 use Rattle.model.specs.Answer.{tops, sort}
 use Rattle.structure.specs.Layout.{standing}
-use Rattle.report.specs.Cuts.{cutsAt}
+use Rattle.structure.specs.Layout.{cutsAt}
 use Rattle.report.proofs.Cuts.{within}
 use Rattle.report.proofs.Standing as stands
 use borrow.Author.Needs.{needs}

@@ -5,7 +5,7 @@ use native.Mathlib.Omega.{arith}
 use mathlib.Core.List.{_++_}
 use lib.ListN.{take, drop}
 use Rattle.model.specs.Answer.{insert}
-use Rattle.report.specs.Cuts.{cutsAt}
+use Rattle.structure.specs.Layout.{cutsAt}
 use Rattle.report.proofs.Cuts.{within}
 use Rattle.report.proofs.Adding as adding
 use borrow.Author.Needs.{needs}

@@ -27,11 +27,11 @@ cast-frame c = search needs
 slice-write-frame-3 : tie.Need-slice-write-frame-3
 slice-write-frame-3 c = search needs
 
-put-cut-requires : tie.Need-put-cut-requires
-put-cut-requires c κs =
+copy-requires : tie.Need-copy-requires
+copy-requires c κs =
     let s = c .before .before .before .before in
     let m : s .args .count * s .args .n ≤ 16 * 8 = mul-le-mul (s .pre .0) (s .pre .1) in
-    (s .pre .2, simp length-set (omega (arith, s .pre .3)))
+    (simp length-set (omega (arith, s .pre .3)), omega (arith, s .pre .2))
 
 add-put-four : tie.Need-add-put-four
 add-put-four c = search needs
@@ -40,14 +40,14 @@ put-four-requires : tie.Need-put-four-requires
 put-four-requires c κs =
     let s = c .before .before .before .before .before .before .before .before in
     let m : s .args .count * s .args .n ≤ 16 * 8 = mul-le-mul (s .pre .0) (s .pre .1) in
-    let l : length (c .before .before .before .put-cut .last .0) ≡ length (s .args .frame .now) = c .before .before .before .put-cut .kept .0 ∙ simp length-set in
+    let l : length (c .before .before .before .copy .last .0) ≡ length (s .args .frame .now) = c .before .before .before .copy .kept .0 ∙ simp length-set in
     omega (arith, m, l, s .pre .3)
 
 add-result : tie.Need-add-result
 add-result c = search needs
 
 same-length : tie.Need-same-length
-same-length c = c .before .before .put-four .kept .1 .0 ∙ c .before .before .before .before .before .before .put-cut .kept .0 ∙ simp length-set
+same-length c = c .before .before .put-four .kept .1 .0 ∙ c .before .before .before .before .before .before .copy .kept .0 ∙ simp length-set
 
 returns : tie.Need-returns
 returns c =
@@ -56,7 +56,7 @@ returns c =
     let a = s .args in
     let m : a .count * a .n ≤ 16 * 8 = mul-le-mul (s .pre .0) (s .pre .1) in (
       omega (arith, m),
-      answer-frame (a .frame .now) (a .cuts .now) _ _ (a .start) (y .result) (a .count) (a .count * a .n) (a .rounds) (omega (arith, m, s .pre .3)) (s .pre .2) (y .ensures) (c .before .before .before .before .before .before .put-cut .ensures) (c .before .before .put-four .ensures),
+      answer-frame (a .frame .now) (a .cuts .now) _ _ (a .start) (y .result) (a .count) (a .count * a .n) (a .rounds) (omega (arith, m, s .pre .3)) (s .pre .2) (y .ensures) (c .before .before .before .before .before .before .copy .ensures) (c .before .before .put-four .ensures),
     )
 
 pub put-frame-spec : {M : Type 1} → statement M
@@ -69,7 +69,7 @@ put-frame-spec =
     slice-write-frame-2
     cast-frame
     slice-write-frame-3
-    put-cut-requires
+    copy-requires
     add-put-four
     put-four-requires
     add-result

@@ -1,12 +1,12 @@
 -- `report::take_out` meets its contract: of the cuts below the i-th those that stay stand at the front, and those from it on are as they were.
 use mathlib.Core.Path.{_≡_, refl, ap, _∙_}
-use mathlib.Core.Logic.{⊎-elim}
+use mathlib.Core.Logic.{⊎-elim, inr}
 use Prim.Native.Nat.{_≤_, _-_, _*_}
 use native.Mathlib.Nat.{mul-le-mul-right}
 use native.Mathlib.Omega.{arith}
 use lib.ListN.{length, take, drop}
 use Rattle.model.specs.Answer.{notInside}
-use Rattle.report.specs.Cuts.{cutsAt}
+use Rattle.structure.specs.Layout.{cutsAt}
 use Rattle.report.proofs.Cuts.{within}
 use Rattle.report.proofs.Adding as adding
 use borrow.Author.Needs.{needs}
@@ -34,24 +34,25 @@ contained-requires c κs =
     let s = c .before .before .before .before .before in
     omega (arith, within (s .args .n) (c .before .before .loop .i) (s .args .count) (c .before .loop-test .taken) (s .pre .1))
 
-mul-move-down : tie.Need-mul-move-down Inv-loop μ-loop
-mul-move-down c =
-    let l = c .before .before .before .before .before in
-    let s = l .before .before .before in
-    omega (arith, mul-le-mul-right (s .args .n) (l .loop .inv .0), within (s .args .n) (l .loop .i) (s .args .count) (c .before .before .before .before .loop-test .taken) (s .pre .1))
-
-mul-move-down-2 : tie.Need-mul-move-down-2 Inv-loop μ-loop
-mul-move-down-2 c =
+mul-shift : tie.Need-mul-shift Inv-loop μ-loop
+mul-shift c =
     let l = c .before .before .before .before .before in
     let s = l .before .before .before in
     omega (arith, within (s .args .n) (l .loop .i) (s .args .count) (c .before .before .before .before .loop-test .taken) (s .pre .1))
 
-move-down-requires : tie.Need-move-down-requires Inv-loop μ-loop
-move-down-requires c κs =
+mul-shift-2 : tie.Need-mul-shift-2 Inv-loop μ-loop
+mul-shift-2 c =
+    let l = c .before .before .before .before .before in
+    let s = l .before .before .before in
+    omega (arith, mul-le-mul-right (s .args .n) (l .loop .inv .0), within (s .args .n) (l .loop .i) (s .args .count) (c .before .before .before .before .loop-test .taken) (s .pre .1))
+
+shift-requires : tie.Need-shift-requires Inv-loop μ-loop
+shift-requires c κs =
     let l = c .before .before .before .before .before in
     let s = l .before .before .before in
     let r = within (s .args .n) (l .loop .i) (s .args .count) (c .before .before .before .before .loop-test .taken) (s .pre .1) in
-    (mul-le-mul-right (s .args .n) (l .loop .inv .0), omega (arith, r, l .loop .inv .2))
+    let m = mul-le-mul-right (s .args .n) (l .loop .inv .0) in
+    (omega (arith, r, l .loop .inv .2), omega (arith, r, m, l .loop .inv .2), inr m)
 
 add-left : tie.Need-add-left Inv-loop μ-loop
 add-left c = search needs
@@ -95,9 +96,9 @@ take-out-spec =
     loop-holds
     mul-contained
     contained-requires
-    mul-move-down
-    mul-move-down-2
-    move-down-requires
+    mul-shift
+    mul-shift-2
+    shift-requires
     add-left
     add-i
     loop-less

@@ -4,7 +4,7 @@ use Prim.Native.Nat.{_*_, _≤_}
 use native.Mathlib.Nat.{mul-le-mul, le-trans}
 use native.Mathlib.Omega.{arith}
 use lib.ListN.{length, take}
-use Rattle.report.specs.Cuts.{cutsAt}
+use Rattle.structure.specs.Layout.{cutsAt}
 use Rattle.report.proofs.Answers.{answer-is}
 use borrow.Author.Needs.{needs}
 use Rattle.report.proofs.write_answer.Statement.{statement}

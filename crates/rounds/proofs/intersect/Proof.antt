@@ -3,8 +3,9 @@ use mathlib.Core.Path.{_≡_, sym, ap, _∙_}
 use Prim.Native.Nat.{ℕ, suc, _+_, _*_, _-_, _≤_, _<_}
 use native.Mathlib.Numerals.{add-one}
 use native.Mathlib.Omega.{arith}
-use lib.ListN.{getD}
-use Rattle.structure.proofs.Standing.{cell-kept}
+use lib.ListN.{getD, take}
+use Rattle.structure.proofs.Parts.{cell-same}
+use Rattle.structure.proofs.Places.{cells-are, row-fits}
 use Rattle.rounds.proofs.Turn as laws
 use borrow.Author.Needs.{needs}
 use Rattle.rounds.proofs.intersect.Statement.{statement}
@@ -26,13 +27,13 @@ next-start-requires c κs =
     let s = c .before .before .before .before .before in
     let a = s .args in
     let l = c .before .before .loop in
-    let z = laws.size-is (a .n) (a .e) (a .counts .now) (s .pre .1 .0 .0) in
-    let d : a .n ≤ (a .e + 1) * a .n = omega (arith, laws.start-room (a .n) (a .e) 0 (omega arith)) in
+    let z = cells-are (a .n) (a .e) (take (a .n) (a .counts .now)) (s .pre .1 .0 .0) in
+    let d : a .n ≤ (a .e + 1) * a .n = omega (arith, row-fits 0 (a .e) (a .n) (omega arith)) in
     let n0 : 0 < a .n = s .pre .0 .some-station in
     let p = s .pre .1 .1 .0 in
     let q = s .pre .1 .1 .1 in
-    let ka : getD (l .ws) (a .a) 0 ≡ getD (a .ws .now) (a .a) 0 = cell-kept (a .a) (a .out) (l .ws) (a .ws .now) (omega (arith, p .0)) (l .inv .before) in
-    let kb : getD (l .ws) (a .b) 0 ≡ getD (a .ws .now) (a .b) 0 = cell-kept (a .b) (a .out) (l .ws) (a .ws .now) (omega (arith, p .2)) (l .inv .before) in (
+    let ka : getD (l .ws) (a .a) 0 ≡ getD (a .ws .now) (a .a) 0 = cell-same (a .out) (l .ws) (a .ws .now) (l .inv .before) (a .a) (omega (arith, p .0)) in
+    let kb : getD (l .ws) (a .b) 0 ≡ getD (a .ws .now) (a .b) 0 = cell-same (a .out) (l .ws) (a .ws .now) (l .inv .before) (a .b) (omega (arith, p .2)) in (
       s .pre .0,
       (
         (omega (arith, z, p .0, q .0, l .inv .long), λ g. p .1 (sym ka ∙ g)),
@@ -60,7 +61,7 @@ loop-again c =
     let s = c .before .before .before .before .before .before .before .before in
     let a = s .args in
     let l = c .before .before .before .before .before .loop in
-    let z = laws.size-is (a .n) (a .e) (a .counts .now) (s .pre .1 .0 .0) in
+    let z = cells-are (a .n) (a .e) (take (a .n) (a .counts .now)) (s .pre .1 .0 .0) in
     let p = s .pre .1 .1 .0 in
     let w = c .before .before .next-start in
     laws.turned-more (a .n) (a .e) (a .a) (a .b) (a .out) (a .counts .now) (a .starts .now) (a .ws .now) (omega (arith, z, p .0)) (omega (arith, z, p .2)) (l .i) (l .ws) (l .rounds) (l .inv)

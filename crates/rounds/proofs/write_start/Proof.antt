@@ -3,6 +3,7 @@ use native.Mathlib.Omega.{arith}
 use Prim.Native.Nat.{_+_, _*_}
 use lib.ListN.{take, drop}
 use Rattle.structure.specs.Layout.{placed}
+use Rattle.structure.proofs.Places.{row-fits}
 use Rattle.rounds.proofs.Turn as laws
 use borrow.Author.Needs.{needs}
 use Rattle.rounds.proofs.write_start.Statement.{statement}
@@ -12,13 +13,13 @@ mul-k : tie.Need-mul-k
 mul-k c =
     let s = c .before .before in
     let a = s .args in
-    omega (arith, laws.start-room (a .n) (a .e) (a .i) (s .pre .1 .1 .1 .1), s .pre .1 .1 .1 .3)
+    omega (arith, row-fits (a .i) (a .e) (a .n) (s .pre .1 .1 .1 .1), s .pre .1 .1 .1 .3)
 
 cut-at-requires : tie.Need-cut-at-requires
 cut-at-requires c κs =
     let s = c .before .before in
     let a = s .args in
-    (s .pre .0 .few-stations, omega (arith, laws.start-room (a .n) (a .e) (a .i) (s .pre .1 .1 .1 .1), s .pre .1 .1 .1 .3))
+    (s .pre .0 .few-stations, omega (arith, row-fits (a .i) (a .e) (a .n) (s .pre .1 .1 .1 .1), s .pre .1 .1 .1 .3))
 
 one-start-requires : tie.Need-one-start-requires
 one-start-requires c κs =
@@ -29,14 +30,14 @@ add-put-start : tie.Need-add-put-start
 add-put-start c =
     let s = c .before .before .before .before .before .before in
     let a = s .args in
-    omega (arith, laws.start-room (a .n) (a .e) (a .i) (s .pre .1 .1 .1 .1), s .pre .1 .1 .1 .2)
+    omega (arith, row-fits (a .i) (a .e) (a .n) (s .pre .1 .1 .1 .1), s .pre .1 .1 .1 .2)
 
 put-start-requires : tie.Need-put-start-requires
 put-start-requires c κs =
     let s = c .before .before .before .before .before .before in
     let a = s .args in
     let r = c .before .one-start .ensures .1 in
-    (s .pre .0 .some-station, s .pre .0 .few-stations, omega (arith, laws.start-room (a .n) (a .e) (a .i) (s .pre .1 .1 .1 .1), s .pre .1 .1 .1 .2), r .1, r .2)
+    (s .pre .0 .some-station, s .pre .0 .few-stations, omega (arith, row-fits (a .i) (a .e) (a .n) (s .pre .1 .1 .1 .1), s .pre .1 .1 .1 .2), r .1, r .2)
 
 same-length : tie.Need-same-length
 same-length c = search needs

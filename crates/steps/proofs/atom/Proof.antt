@@ -15,7 +15,7 @@ cast-off : tie.Need-cast-off
 cast-off c =
     let a = c .before .before .before .before .before .args in
     let p = c .before .before .before .before .before .pre in
-    omega (arith, atoms.own-fit _ _ _ _ _ _ _ (p .0 .laid) (a .s) (p .1 .0), p .0 .laid .few-events)
+    omega (arith, atoms.own-fit _ _ _ _ _ _ _ (p .0 .1) (a .s) (p .1 .0), p .0 .1 .few-events)
 
 slice-aggregate-fill-table : tie.Need-slice-aggregate-fill-table
 slice-aggregate-fill-table c = search needs
@@ -24,7 +24,7 @@ add-fill-table : tie.Need-add-fill-table
 add-fill-table c =
     let a = c .before .before .before .before .before .before .args in
     let p = c .before .before .before .before .before .before .pre in
-    omega (arith, atoms.own-fit _ _ _ _ _ _ _ (p .0 .laid) (a .s) (p .1 .0), p .0 .laid .few-events, p .0 .laid .few-stations)
+    omega (arith, atoms.own-fit _ _ _ _ _ _ _ (p .0 .1) (a .s) (p .1 .0), p .0 .1 .few-events, p .0 .1 .few-stations)
 
 element-copy-out-fill-table : tie.Need-element-copy-out-fill-table
 element-copy-out-fill-table c = search needs
@@ -33,19 +33,19 @@ cast-fill-table : tie.Need-cast-fill-table
 cast-fill-table c =
     let a = c .before .before .before .before .before .before .before .args in
     let p = c .before .before .before .before .before .before .before .pre in
-    omega (arith, atoms.own-fit _ _ _ _ _ _ _ (p .0 .laid) (a .s) (p .1 .0), p .0 .laid .few-events)
+    omega (arith, atoms.own-fit _ _ _ _ _ _ _ (p .0 .1) (a .s) (p .1 .0), p .0 .1 .few-events)
 
 fill-table-requires : tie.Need-fill-table-requires
 fill-table-requires c κs =
     let a = c .before .before .before .before .before .before .before .args in
     let p = c .before .before .before .before .before .before .before .pre in
-    (refl, omega (arith, atoms.own-fit _ _ _ _ _ _ _ (p .0 .laid) (a .s) (p .1 .0), p .0 .laid .few-events), atoms.values-fit _ _ _ _ _ _ _ (p .0 .laid) (a .s) (p .1 .0))
+    (refl, omega (arith, atoms.own-fit _ _ _ _ _ _ _ (p .0 .1) (a .s) (p .1 .0), p .0 .1 .few-events), atoms.values-fit _ _ _ _ _ _ _ (p .0 .1) (a .s) (p .1 .0))
 
 atom-rows-requires : tie.Need-atom-rows-requires
 atom-rows-requires c κs =
     let a = c .before .before .before .before .before .before .before .before .before .before .before .args in
     let p = c .before .before .before .before .before .before .before .before .before .before .before .pre in
-    (atoms.tabled _ _ _ _ _ _ _ (p .0 .laid) (a .s) (p .1 .0) (a .sign) (a .lo) (a .hi) _ (c .before .before .before .fill-table .ensures), p .1 .1)
+    (atoms.tabled _ _ _ _ _ _ _ (p .0 .1) (a .s) (p .1 .0) (a .sign) (a .lo) (a .hi) _ (c .before .before .before .fill-table .ensures), p .1 .1)
 
 slice-write-bs : tie.Need-slice-write-bs
 slice-write-bs c = search needs
@@ -75,7 +75,7 @@ returns-2 : tie.Need-returns-2
 returns-2 c =
     let a = c .before .before .before .before .before .before .before .before .before .before .before .before .before .before .before .before .args in
     let p = c .before .before .before .before .before .before .before .before .before .before .before .before .before .before .before .before .pre in
-    (omega arith, λ z. c .if1 .left, λ K laid. atoms.atom-kept K _ _ _ _ _ _ laid (a .s) (p .1 .0) (a .sign) (a .lo) (a .hi) _ (c .before .before .before .before .before .before .before .before .fill-table .ensures) (λ i. omega (arith, c .before .before .before .before .before .before .before .before .before .before .before .before .before .shared-slice-known .given (i * a .n + a .s))) _ _ (c .before .before .before .before .atom-rows .ensures) (c .if1 .left) (getD-set-same (a .bs .now) 0 255 0 (omega (arith, p .1, p .0 .laid .some-station))))
+    (omega arith, λ z. c .if1 .left, λ K laid. atoms.atom-kept K _ _ _ _ _ _ laid (a .s) (p .1 .0) (a .sign) (a .lo) (a .hi) _ (c .before .before .before .before .before .before .before .before .fill-table .ensures) (λ i. omega (arith, c .before .before .before .before .before .before .before .before .before .before .before .before .before .shared-slice-known .given (i * a .n + a .s))) _ _ (c .before .before .before .before .atom-rows .ensures) (c .if1 .left) (getD-set-same (a .bs .now) 0 255 0 (omega (arith, p .1, p .0 .1 .some-station))))
 
 pub atom-spec : {M : Type 1} → statement M
 atom-spec =

@@ -8,8 +8,8 @@ use lib.ListN.{getD}
 use lib.Seq.{paste}
 use Rattle.model.specs.Cut.{join}
 use Rattle.steps.specs.Rows.{rowAt}
+use Rattle.structure.proofs.Places.{row-fits}
 use Rattle.steps.proofs.Laws as laws
-use Rattle.steps.proofs.Parts.{row-fits}
 use borrow.Author.Needs.{needs}
 use Rattle.steps.proofs.atom_row.Statement.{statement}
 use Rattle.steps.proofs.atom_row.Tie as tie

@@ -5,8 +5,9 @@ use native.Mathlib.Omega.{arith}
 use native.Mathlib.Nat.{not-suc-le-zero}
 use lib.ListN.{length}
 use Rattle.steps.specs.Rows.{rowAt, atomRow}
+use Rattle.structure.proofs.Places.{row-fits}
 use Rattle.steps.proofs.Laws as laws
-use Rattle.steps.proofs.Parts.{row-fits, rows-more}
+use Rattle.steps.proofs.Parts.{rows-more}
 use borrow.Author.Needs.{needs}
 use Rattle.steps.proofs.atom_rows.Statement.{statement}
 use Rattle.steps.proofs.atom_rows.Tie as tie

@@ -1,6 +1,7 @@
 -- The slot behind the last bar lies within the 16.
 use native.Mathlib.Omega.{arith}
-use Rattle.steps.proofs.Parts.{slot-fits, ended}
+use Rattle.structure.proofs.Places.{next-fits}
+use Rattle.steps.proofs.Parts.{ended}
 use borrow.Author.Needs.{needs}
 use Rattle.steps.proofs.end_bars.Statement.{statement}
 use Rattle.steps.proofs.end_bars.Tie as tie
@@ -8,17 +9,17 @@ use Rattle.steps.proofs.end_bars.Tie as tie
 mul-bs : tie.Need-mul-bs
 mul-bs c =
     let a = c .before .args in
-    omega (arith, slot-fits (a .count) (a .n) (c .if1 .taken), c .before .pre)
+    omega (arith, next-fits (a .count) 16 (a .n) (c .if1 .taken), c .before .pre)
 
 add-bs : tie.Need-add-bs
 add-bs c =
     let a = c .before .args in
-    omega (arith, slot-fits (a .count) (a .n) (c .if1 .taken), c .before .pre)
+    omega (arith, next-fits (a .count) 16 (a .n) (c .if1 .taken), c .before .pre)
 
 slice-write-bs : tie.Need-slice-write-bs
 slice-write-bs c =
     let a = c .before .args in
-    omega (arith, slot-fits (a .count) (a .n) (c .if1 .taken), c .before .pre)
+    omega (arith, next-fits (a .count) 16 (a .n) (c .if1 .taken), c .before .pre)
 
 same-length : tie.Need-same-length
 same-length c = search needs

@@ -4,7 +4,7 @@ use mathlib.Core.Path.{_≡_, refl}
 use native.Mathlib.Omega.{arith}
 use lib.ListN.{length, replicate, length-replicate, getD-replicate, length-set}
 use lib.Seq.{paste, paste-zero}
-use Rattle.steps.proofs.Laws as laws
+use Rattle.structure.proofs.Parts as parts
 use borrow.Author.Needs.{needs}
 use Rattle.steps.proofs.fill.Statement.{statement}
 use Rattle.steps.proofs.fill.Tie as tie
@@ -36,7 +36,7 @@ loop-again c =
     let a = c .before .before .args in
     let v = c .before .loop in
     let h : v .i < a .len = c .loop-test .taken in
-    (omega arith, rw (v .inv .1) (laws.paste-more (a .ws .now) (a .at) (replicate (a .len) (a .x)) (v .i) (a .x) (omega arith) (omega (arith, length-replicate {A = ℕ} (a .len) (a .x))) (getD-replicate (a .len) (v .i) (a .x) 0 h)), simp length-set (v .inv .2))
+    (omega arith, rw (v .inv .1) (parts.paste-more (a .ws .now) (a .at) (replicate (a .len) (a .x)) (v .i) (a .x) (omega arith) (omega (arith, length-replicate {A = ℕ} (a .len) (a .x))) (getD-replicate (a .len) (v .i) (a .x) 0 h)), simp length-set (v .inv .2))
 
 same-length : tie.Need-same-length Inv-loop μ-loop
 same-length c = c .before .loop .inv .2
@@ -44,7 +44,7 @@ same-length c = c .before .loop .inv .2
 returns : tie.Need-returns Inv-loop μ-loop
 returns c =
     let a = c .before .before .args in
-    laws.paste-done (a .ws .now) (a .at) (replicate (a .len) (a .x)) (c .before .loop .i) (a .len) (c .before .loop .ws) (omega arith) (c .before .loop .inv .1)
+    parts.paste-done (a .ws .now) (a .at) (replicate (a .len) (a .x)) (c .before .loop .i) (a .len) (c .before .loop .ws) (omega arith) (c .before .loop .inv .1)
 
 pub fill-spec : {M : Type 1} → statement M
 fill-spec =

@@ -5,6 +5,7 @@ use native.Mathlib.Omega.{arith}
 use lib.ListN.{length, take, drop, length-set}
 use lib.Seq.{paste, paste-zero}
 use Rattle.model.specs.Cut.{join}
+use Rattle.structure.proofs.Parts as parts
 use Rattle.steps.proofs.Laws as laws
 use borrow.Author.Needs.{needs}
 use Rattle.steps.proofs.join_cells.Statement.{statement}
@@ -54,7 +55,7 @@ loop-again c =
     let a = c .before .before .before .before .before .before .before .args in
     let v = c .before .before .before .before .loop in
     let s = a .src .now in
-    (omega arith, rw (v .inv .1) (laws.paste-more (a .ws .now) (a .at) (join (take (a .len) (drop (a .a) s)) (take (a .len) (drop (a .b) s))) (v .i) _ (omega arith) (omega (arith, laws.parts-length s (a .a) (a .b) (a .len) (omega arith) (omega arith))) (laws.parts-at s (a .a) (a .b) (a .len) (v .i) (c .before .before .before .loop-test .taken) ∙ sym (c .larger .ensures))), simp length-set (v .inv .2))
+    (omega arith, rw (v .inv .1) (parts.paste-more (a .ws .now) (a .at) (join (take (a .len) (drop (a .a) s)) (take (a .len) (drop (a .b) s))) (v .i) _ (omega arith) (omega (arith, laws.parts-length s (a .a) (a .b) (a .len) (omega arith) (omega arith))) (laws.parts-at s (a .a) (a .b) (a .len) (v .i) (c .before .before .before .loop-test .taken) ∙ sym (c .larger .ensures))), simp length-set (v .inv .2))
 
 same-length : tie.Need-same-length Inv-loop μ-loop
 same-length c = c .before .loop .inv .2
@@ -62,7 +63,7 @@ same-length c = c .before .loop .inv .2
 returns : tie.Need-returns Inv-loop μ-loop
 returns c =
     let a = c .before .before .before .before .args in
-    laws.paste-done (a .ws .now) (a .at) (join (take (a .len) (drop (a .a) (a .src .now))) (take (a .len) (drop (a .b) (a .src .now)))) (c .before .loop .i) (a .len) (c .before .loop .ws) (omega arith) (c .before .loop .inv .1)
+    parts.paste-done (a .ws .now) (a .at) (join (take (a .len) (drop (a .a) (a .src .now))) (take (a .len) (drop (a .b) (a .src .now)))) (c .before .loop .i) (a .len) (c .before .loop .ws) (omega arith) (c .before .loop .inv .1)
 
 pub join-cells-spec : {M : Type 1} → statement M
 join-cells-spec =

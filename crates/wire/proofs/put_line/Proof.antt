@@ -3,7 +3,8 @@ use borrow.Author.Needs.{needs}
 use mathlib.Core.Path.{refl, _∙_}
 use native.Mathlib.Omega.{arith}
 use lib.ListN.{length-set}
-use Rattle.wire.proofs.Hexes.{length-line, put-line-is}
+use Rattle.codec.proofs.Lines.{length-line}
+use Rattle.wire.proofs.Hexes.{put-line-is}
 use Rattle.wire.proofs.put_line.Statement.{statement}
 use Rattle.wire.proofs.put_line.Tie as tie
 

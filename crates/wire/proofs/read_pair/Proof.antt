@@ -6,8 +6,8 @@ use mathlib.Core.Option.{some}
 use Prim.Native.Nat.{_+_}
 use lib.ListN.{getD}
 use Rattle.model.specs.Bytes.{digit}
+use Rattle.codec.proofs.Hex.{hex-digit}
 use Rattle.wire.specs.Pairs.{digitOf}
-use Rattle.wire.proofs.Digits.{digit-small}
 use Rattle.wire.proofs.Pairs.{pair-end, pair-none, pair-short, pair-two}
 use Rattle.wire.proofs.read_pair.Statement.{statement}
 use Rattle.wire.proofs.read_pair.Tie as tie
@@ -50,10 +50,10 @@ enum-known-l : tie.Need-enum-known-l
 enum-known-l c = search needs
 
 mul-t17 : tie.Need-mul-t17
-mul-t17 c = omega (arith, digit-small _ _ (high (first c)))
+mul-t17 c = omega (arith, hex-digit _ _ (high (first c)) .0)
 
 add-t18 : tie.Need-add-t18
-add-t18 c = omega (arith, digit-small _ _ (high (first c)), digit-small _ _ (low c))
+add-t18 c = omega (arith, hex-digit _ _ (high (first c)) .0, hex-digit _ _ (low c) .0)
 
 enum-told : tie.Need-enum-told
 enum-told c = search needs

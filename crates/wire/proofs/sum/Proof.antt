@@ -1,13 +1,14 @@
 -- The invariant: t is the sum of the first k bytes, modulo 256.
 use borrow.Author.Needs.{needs}
-use mathlib.Core.Path.{_≡_, ap, _∙_}
+use mathlib.Core.Path.{_≡_, refl, ap, _∙_}
 use mathlib.Core.List.{List}
 use Prim.Native.Nat.{ℕ, _%_, _≤_, _-_}
 use native.Mathlib.Omega.{arith}
+use native.Mathlib.Numerals.{add-one}
 use lib.ListN.{length, take}
 use lib.Seq.{take-all}
-use Rattle.model.specs.Lists.{total}
-use Rattle.wire.proofs.Sums.{total-none, total-step}
+use Rattle.model.specs.Lists.{sum, total}
+use Rattle.lattice.proofs.Sums.{total-suc}
 use Rattle.wire.proofs.sum.Statement.{statement}
 use Rattle.wire.proofs.sum.Tie as tie
 
@@ -18,7 +19,8 @@ abbrev μ-loop : tie.MeasureT-loop
 μ-loop s t₀ k₀ t k = length s - k
 
 loop-holds : tie.Need-loop-holds Inv-loop μ-loop
-loop-holds c = (omega arith, omega (arith, total-none))
+unfolding sum
+loop-holds c = (omega arith, refl)
 
 shared-slice-read-wrapping-add-u8 : tie.Need-shared-slice-read-wrapping-add-u8 Inv-loop μ-loop
 shared-slice-read-wrapping-add-u8 c = search needs
@@ -35,7 +37,8 @@ loop-less c = search needs
 loop-again : tie.Need-loop-again Inv-loop μ-loop
 loop-again c =
     let l = c .before .before .before in
-    (omega arith, omega (arith, c .wrapping-add-u8 .ensures, total-step (l .before .before .args .s .now) (l .loop .k) (c .before .before .loop-test .taken)))
+    let s = l .before .before .args .s .now in
+    (omega arith, rw add-one (omega (arith, c .wrapping-add-u8 .ensures, total-suc s (l .loop .k))))
 
 returns : tie.Need-returns Inv-loop μ-loop
 returns c = c .before .loop .inv .1 ∙ ap (λ (l : List ℕ). total l % 256) (take-all _ _ (c .loop-test .left))

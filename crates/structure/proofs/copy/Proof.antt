@@ -4,10 +4,10 @@ use mathlib.Core.Path.{_≡_, refl}
 use native.Mathlib.Omega.{arith}
 use lib.ListN.{length, drop, length-drop, length-set}
 use lib.Seq.{paste, paste-zero, getD-drop}
-use Rattle.steps.proofs.Laws as laws
+use Rattle.structure.proofs.Parts as parts
 use borrow.Author.Needs.{needs}
-use Rattle.steps.proofs.copy.Statement.{statement}
-use Rattle.steps.proofs.copy.Tie as tie
+use Rattle.structure.proofs.copy.Statement.{statement}
+use Rattle.structure.proofs.copy.Tie as tie
 
 abbrev Inv-loop : tie.InvT-loop
 Inv-loop ws₀ at src from len i₀ ws i = (i ≤ len) × (ws ≡ paste ws₀ at (drop from src) i) × (length ws ≡ length ws₀)
@@ -41,7 +41,7 @@ loop-again : tie.Need-loop-again Inv-loop μ-loop
 loop-again c =
     let a = c .before .before .before .args in
     let v = c .before .before .loop in
-    (omega arith, rw (v .inv .1) (laws.paste-more (a .ws .now) (a .at) (drop (a .from) (a .src .now)) (v .i) _ (omega arith) (omega (arith, length-drop (a .from) (a .src .now))) (getD-drop (a .from) (a .src .now) (v .i) 0)), simp length-set (v .inv .2))
+    (omega arith, rw (v .inv .1) (parts.paste-more (a .ws .now) (a .at) (drop (a .from) (a .src .now)) (v .i) _ (omega arith) (omega (arith, length-drop (a .from) (a .src .now))) (getD-drop (a .from) (a .src .now) (v .i) 0)), simp length-set (v .inv .2))
 
 same-length : tie.Need-same-length Inv-loop μ-loop
 same-length c = c .before .loop .inv .2
@@ -49,7 +49,7 @@ same-length c = c .before .loop .inv .2
 returns : tie.Need-returns Inv-loop μ-loop
 returns c =
     let a = c .before .before .args in
-    laws.paste-done (a .ws .now) (a .at) (drop (a .from) (a .src .now)) (c .before .loop .i) (a .len) (c .before .loop .ws) (omega arith) (c .before .loop .inv .1)
+    parts.paste-done (a .ws .now) (a .at) (drop (a .from) (a .src .now)) (c .before .loop .i) (a .len) (c .before .loop .ws) (omega arith) (c .before .loop .inv .1)
 
 pub copy-spec : {M : Type 1} → statement M
 copy-spec =

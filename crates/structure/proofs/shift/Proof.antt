@@ -4,11 +4,10 @@ use mathlib.Core.Path.{_≡_, refl}
 use native.Mathlib.Omega.{arith}
 use lib.ListN.{length, drop, length-drop, length-set}
 use lib.Seq.{paste, paste-zero}
-use Rattle.steps.proofs.Laws.{paste-more, paste-done}
-use Rattle.pairs.proofs.Bars as bars
+use Rattle.structure.proofs.Parts as parts
 use borrow.Author.Needs.{needs}
-use Rattle.pairs.proofs.shift.Statement.{statement}
-use Rattle.pairs.proofs.shift.Tie as tie
+use Rattle.structure.proofs.shift.Statement.{statement}
+use Rattle.structure.proofs.shift.Tie as tie
 
 abbrev Inv-loop : tie.InvT-loop
 Inv-loop ws₀ from to len i₀ ws i = (i ≤ len) × (ws ≡ paste ws₀ to (drop from ws₀) i) × (length ws ≡ length ws₀)
@@ -44,7 +43,7 @@ loop-again c =
     let a = c .before .before .before .args in
     let p = c .before .before .before .pre in
     let v = c .before .before .loop in
-    (omega arith, rw (v .inv .1) (paste-more (a .ws .now) (a .to) (drop (a .from) (a .ws .now)) (v .i) _ (omega (arith, p .1)) (omega (arith, p .0, length-drop (a .from) (a .ws .now))) (bars.shift-reads (a .ws .now) (a .from) (a .to) (a .len) (v .i) (p .0) (p .1) (p .2) (c .before .loop-test .taken))), simp length-set (v .inv .2))
+    (omega arith, rw (v .inv .1) (parts.paste-more (a .ws .now) (a .to) (drop (a .from) (a .ws .now)) (v .i) _ (omega (arith, p .1)) (omega (arith, p .0, length-drop (a .from) (a .ws .now))) (parts.shift-reads (a .ws .now) (a .from) (a .to) (a .len) (v .i) (p .0) (p .1) (p .2) (c .before .loop-test .taken))), simp length-set (v .inv .2))
 
 same-length : tie.Need-same-length Inv-loop μ-loop
 same-length c = c .before .loop .inv .2
@@ -52,7 +51,7 @@ same-length c = c .before .loop .inv .2
 returns : tie.Need-returns Inv-loop μ-loop
 returns c =
     let a = c .before .before .args in
-    paste-done (a .ws .now) (a .to) (drop (a .from) (a .ws .now)) (c .before .loop .i) (a .len) (c .before .loop .ws) (omega arith) (c .before .loop .inv .1)
+    parts.paste-done (a .ws .now) (a .to) (drop (a .from) (a .ws .now)) (c .before .loop .i) (a .len) (c .before .loop .ws) (omega arith) (c .before .loop .inv .1)
 
 pub shift-spec : {M : Type 1} → statement M
 shift-spec =
