@@ -1,0 +1,157 @@
+//! The basis, with rows of fixed size worked on in place.
+use crate::formula::{Token, Tokens};
+use crate::log::{contained, Cut, Log};
+
+/// A row that is none has 255 at station 0.
+const NONE: Cut = [255; 8];
+
+fn join(a: &mut Cut, b: &Cut) {
+    for (x, y) in a.iter_mut().zip(b) {
+        *x = (*x).max(*y);
+    }
+}
+
+/// The greatest cut of a set that is not empty.
+fn greatest(rows: &[Cut]) -> Cut {
+    let mut out = [0; 8];
+    rows.iter().filter(|r| r[0] != 255).for_each(|r| join(&mut out, r));
+    out
+}
+
+/// Row 0 is the least cut; then a row for each event, station by station.
+pub struct Structure {
+    rows: Vec<Cut>,
+    bars: Vec<Cut>,
+}
+
+impl Structure {
+    fn dropped(&self) -> bool {
+        let empty = self.rows[0][0] == 255;
+        empty || !self.bars.is_empty() && {
+            let top = greatest(&self.rows);
+            self.bars.iter().any(|b| contained(&top, b))
+        }
+    }
+}
+
+pub struct Worker<'a> {
+    log: &'a Log,
+    /// Where each station's rows begin, less one.
+    offs: [usize; 8],
+    /// The empty cut and each event's clock.
+    starts: Vec<Cut>,
+    pub rounds: u32,
+}
+
+impl<'a> Worker<'a> {
+    pub fn new(log: &'a Log) -> Self {
+        let (mut offs, mut starts) = ([0; 8], Vec::with_capacity(log.events + 1));
+        starts.push([0; 8]);
+        for (j, h) in log.history.iter().enumerate() {
+            offs[j] = starts.len() - 1;
+            starts.extend(h[1..].iter().map(|e| e.clock));
+        }
+        Worker { log, offs, starts, rounds: 0 }
+    }
+
+    /// The least cut of a set that contains c, or none. Every row contains row 0, which stands for a count of 0.
+    fn raise(&self, rows: &[Cut], c: &Cut) -> Cut {
+        let mut out = [0; 8];
+        for j in 0..8 {
+            let row = if c[j] == 0 { 0 } else { self.offs[j] + c[j] as usize };
+            join(&mut out, &rows[row]);
+        }
+        out
+    }
+
+    fn range(&self, station: usize, inside: impl Fn(u16) -> bool) -> Structure {
+        let h = &self.log.history[station];
+        let mut next = [None; 129];
+        for k in (0..h.len()).rev() {
+            next[k] = if inside(h[k].value) { Some(&h[k].clock) } else { next[k + 1] };
+        }
+        let raised = |c: &Cut| {
+            let mut d = *c;
+            join(&mut d, next[c[station] as usize].unwrap_or(&NONE));
+            d
+        };
+        Structure { rows: self.starts.iter().map(raised).collect(), bars: vec![] }
+    }
+
+    /// One start: what it comes to, and its rounds.
+    fn start(&self, left: &[Cut], right: &[Cut], mut c: Cut) -> (Cut, u32) {
+        for rounds in 1.. {
+            let d = self.raise(left, &c);
+            if d[0] == 255 {
+                return (NONE, rounds);
+            }
+            let d = self.raise(right, &d);
+            if d[0] == 255 || d == c {
+                return (d, rounds);
+            }
+            c = d;
+        }
+        unreachable!()
+    }
+
+    fn pair(&mut self, left: &Structure, right: &Structure) -> Structure {
+        let mut rows = Vec::with_capacity(self.starts.len());
+        for i in 0..self.starts.len() {
+            let (row, rounds) = self.start(&left.rows, &right.rows, self.starts[i]);
+            rows.push(row);
+            self.rounds += rounds;
+        }
+        Structure { rows, bars: left.bars.iter().chain(&right.bars).copied().collect() }
+    }
+
+    pub fn basis(&mut self, f: &mut Tokens, sign: bool) -> Vec<Structure> {
+        let mut out = Vec::new();
+        match (f.take(), sign) {
+            (Token::Range { station, lo, hi }, _) => out.push(self.range(station, |v| (lo <= v && v <= hi) == sign)),
+            (Token::Not, _) => out = self.basis(f, !sign),
+            (Token::And, true) | (Token::Or, false) => {
+                let (left, right) = (self.basis(f, sign), self.basis(f, sign));
+                for l in &left {
+                    for r in &right {
+                        out.push(self.pair(l, r));
+                    }
+                }
+            }
+            (Token::And, false) | (Token::Or, true) => {
+                out = self.basis(f, sign);
+                out.append(&mut self.basis(f, sign));
+            }
+            (Token::Possibly, true) | (Token::Always, false) => {
+                out = self.basis(f, sign);
+                out.iter_mut().for_each(|s| self.lower(s));
+            }
+            (Token::Possibly, false) | (Token::Always, true) => {
+                let bars = self.basis(f, !sign).iter().map(|s| greatest(&s.rows)).collect();
+                out.push(Structure { rows: self.starts.clone(), bars });
+            }
+        }
+        out.retain(|s| !s.dropped());
+        out
+    }
+
+    /// All cuts contained in the greatest, no bars.
+    fn lower(&self, s: &mut Structure) {
+        let top = greatest(&s.rows);
+        for (row, start) in s.rows.iter_mut().zip(&self.starts) {
+            *row = if contained(start, &top) { *start } else { NONE };
+        }
+        s.bars.clear();
+    }
+
+    pub fn belongs(&self, s: &Structure, c: &Cut) -> bool {
+        self.raise(&s.rows, c) == *c && !s.bars.iter().any(|b| contained(c, b))
+    }
+
+    /// The maximal ones of the greatest cuts, in order.
+    pub fn tops(&self, basis: &[Structure]) -> Vec<Cut> {
+        let mut all: Vec<Cut> = basis.iter().map(|s| greatest(&s.rows)).collect();
+        all.sort_unstable();
+        all.dedup();
+        (0..all.len()).filter(|&i| !(0..all.len()).any(|k| k != i && contained(&all[i], &all[k]))).map(|i| all[i]).collect()
+    }
+}

@@ -1,0 +1,234 @@
+//! One made-up log through all four operations, here and in the proved code.
+use crate::basis::Worker;
+use crate::draw::Draw;
+use crate::fault::Refusal;
+use crate::formula::Tokens;
+use crate::listing;
+use crate::log::{Log, LIST, LOG};
+use crate::made::{self, Shape};
+use crate::operations::{self as here, answer_line, BARS, LINE, WORKSPACE};
+use crate::proved::{self, Reply};
+use std::fmt::Debug;
+
+/// What a seed gives: a log and a frame list, and the draws that follow.
+pub struct Case {
+    pub log: Vec<u8>,
+    pub list: Vec<u8>,
+    draw: Draw,
+}
+
+fn shape(d: &mut Draw) -> Shape {
+    let (stations, events, questions, ranges) = match d.below(12) {
+        0 => (1 + d.below(8), d.pick(&[60, 100, 126, 127, 127, 128]), d.pick(&[0, 0, 1, 2, 8, 16]), 6),
+        1 => (1 + d.below(8), d.below(40), d.below(6), 8),
+        _ => (1 + d.below(4), d.below(9), d.below(4), 1 + d.below(6)),
+    };
+    Shape { stations, events, questions, ranges, step: d.pick(&[1, 1, 255, 21845]) }
+}
+
+impl Case {
+    pub fn new(seed: u64) -> Self {
+        let mut draw = Draw(seed);
+        let d = &mut draw;
+        let s = shape(d);
+        let mut fs = made::frames(d, s);
+        for _ in 0..d.pick(&[0, 0, 0, 1, 1, 2]) {
+            if !fs.is_empty() {
+                made::damage(d, s, &mut fs);
+            }
+        }
+        let (mut log, mut list) = (made::lines(&fs), made::list(&fs));
+        if d.below(6) == 0 {
+            made::spoil(d, LOG, &mut log);
+        }
+        if d.below(6) == 0 {
+            made::spoil(d, LIST, &mut list);
+        }
+        Case { log, list, draw }
+    }
+}
+
+/// A buffer of which a part is lent, beside what it held before.
+struct Lent {
+    asked: usize,
+    size: usize,
+    bytes: Vec<u8>,
+    before: Vec<u8>,
+}
+
+impl Lent {
+    fn new(d: &mut Draw, asked: usize) -> Self {
+        let pattern = d.byte();
+        let bytes: Vec<u8> = (0..asked + 64).map(|i| pattern.wrapping_add(i as u8)).collect();
+        Lent { asked, size: asked, before: bytes.clone(), bytes }
+    }
+
+    /// Lends as much as is asked for, or a little more or less.
+    fn lend(&mut self, d: &mut Draw, exact: bool) {
+        let size = self.asked;
+        self.size = if exact { size } else { d.pick(&[0, size / 2, size - 1, size, size, size + 1]) };
+    }
+
+    fn part(&mut self) -> &mut [u8] {
+        &mut self.bytes[..self.size]
+    }
+
+    fn same(&self, what: &str) {
+        if self.bytes != self.before {
+            let i = (0..self.bytes.len()).find(|&i| self.bytes[i] != self.before[i]).unwrap_or(0);
+            panic!("{what}: {} bytes were lent; byte {i} is {}, not {}", self.size, self.bytes[i], self.before[i]);
+        }
+    }
+}
+
+/// What was seen: calls, accepted logs, Holds' no and yes, answers that list no, one and several cuts, and each fault.
+pub struct Counts {
+    pub calls: usize,
+    pub accepted: usize,
+    pub holds: [usize; 2],
+    pub answers: [usize; 3],
+    pub faults: [usize; 256],
+}
+
+impl Counts {
+    /// Both replies are equal; hands back whether they accept.
+    fn same<T: PartialEq + Debug>(&mut self, what: &str, proved: &Reply<T>, here: Result<T, Refusal>) -> bool {
+        self.calls += 1;
+        if let Err(Refusal(fault, _)) = here {
+            self.faults[fault as usize] += 1;
+        }
+        assert_eq!(*proved, here.map_err(|Refusal(fault, line)| (fault.number(), line)), "{what}: proved and here");
+        proved.is_ok()
+    }
+}
+
+/// The calls on one log, with the buffers that they are lent.
+struct Calls<'a> {
+    log: &'a [u8],
+    draw: Draw,
+    list: Lent,
+    lines: Lent,
+    line: Lent,
+    ws: Lent,
+    bs: Lent,
+    counts: &'a mut Counts,
+}
+
+impl Calls<'_> {
+    fn read(&mut self) {
+        let out = &mut self.list;
+        out.lend(&mut self.draw, false);
+        let reply = proved::read(self.log, out.part());
+        let here = here::read(self.log, &mut out.before[..out.size]);
+        self.counts.same("Read", &reply, here);
+        out.same("Read's output");
+    }
+
+    fn write(&mut self, list: &[u8]) {
+        let out = &mut self.lines;
+        out.lend(&mut self.draw, false);
+        let reply = proved::write(list, out.part());
+        let here = here::write(list, &mut out.before[..out.size]);
+        self.counts.same("Write", &reply, here);
+        out.same("Write's output");
+    }
+
+    fn lend_room(&mut self, exact: bool) {
+        self.ws.lend(&mut self.draw, exact);
+        self.bs.lend(&mut self.draw, exact);
+    }
+
+    /// Workspace and bar space may hold anything after an accepted call, and are as lent after a refusal.
+    fn check_room(&mut self, accepted: bool) {
+        for b in [&mut self.ws, &mut self.bs] {
+            if accepted {
+                b.before[..b.size].copy_from_slice(&b.bytes[..b.size]);
+            }
+            b.same("workspace or bar space");
+        }
+    }
+
+    /// The line, if the question is answered.
+    fn answer(&mut self, q: usize, exact: bool) -> Option<Vec<u8>> {
+        self.lend_room(exact);
+        let out = &mut self.line;
+        out.lend(&mut self.draw, exact);
+        let reply = proved::answer(self.log, q, self.ws.part(), self.bs.part(), out.part());
+        let here = here::answer(self.log, q, self.ws.size, self.bs.size, &mut out.before[..out.size]);
+        let accepted = self.counts.same("Answer", &reply, here);
+        out.same("Answer's output");
+        self.check_room(accepted);
+        reply.ok().map(|n| {
+            let line = self.line.bytes[..n].to_vec();
+            self.counts.answers[if &line[4..6] > b"01" { 2 } else { (line[5] - b'0') as usize }] += 1;
+            line
+        })
+    }
+
+    fn holds(&mut self, q: usize, cut: &[u8], exact: bool) -> Option<bool> {
+        self.lend_room(exact);
+        let reply = proved::holds(self.log, q, cut, self.ws.part(), self.bs.part());
+        let here = here::holds(self.log, q, cut, self.ws.size, self.bs.size);
+        let accepted = self.counts.same("Holds", &reply, here.map(usize::from));
+        self.check_room(accepted);
+        reply.ok().map(|yes| {
+            self.counts.holds[yes] += 1;
+            yes == 1
+        })
+    }
+
+    /// Calls with a question number, sizes and a cut that may be wrong.
+    fn odd(&mut self, questions: usize, stations: usize) {
+        let d = &mut self.draw;
+        let q = if d.below(4) == 0 { d.pick(&[questions, 255, 256, usize::MAX]) } else { d.below(questions + 1) };
+        let cut: Vec<u8> = (0..d.pick(&[0, stations, stations, stations, stations + 1])).map(|_| d.pick(&[0, 0, 0, 1, 1, 2, 128, 255])).collect();
+        self.answer(q, false);
+        self.holds(q, &cut, false);
+    }
+
+    /// One question at every cut, against the plain listing; the rounds are those of the independent implementation.
+    fn listed(&mut self, log: &Log, q: usize, line: &[u8]) {
+        let (f, n) = (&log.questions[q][..], log.stations());
+        let cuts = listing::consistent(log);
+        let truth = listing::truth(log, &cuts, &mut Tokens(f));
+        let mut worker = Worker::new(log);
+        worker.basis(&mut Tokens(f), true);
+        let expected = answer_line(truth[0], &listing::maximal(&cuts, &truth), n, worker.rounds);
+        assert_eq!(line, expected, "question {q}: proved and listed");
+        for c in listing::all(log) {
+            let expected = cuts.binary_search(&c).ok().map(|i| truth[i]);
+            assert_eq!(self.holds(q, &c[..n], true), expected, "question {q} at {c:?}: proved and listed");
+        }
+    }
+
+    /// One question at joins of some events' clocks.
+    fn sampled(&mut self, log: &Log, q: usize) {
+        let mut c = [0u8; 8];
+        for _ in 0..4 {
+            let events = &log.history[self.draw.below(log.stations())];
+            let clock = self.draw.pick(events).clock;
+            c.iter_mut().zip(clock).for_each(|(x, y)| *x = (*x).max(y));
+            self.holds(q, &c[..log.stations()], true);
+        }
+    }
+}
+
+/// One case through all four operations: every question, and for a small log every cut.
+pub fn compare(case: Case, counts: &mut Counts) {
+    let Case { log: data, list, mut draw } = case;
+    let [a, b, c, d, e] = [LIST, LOG, LINE, WORKSPACE, BARS].map(|asked| Lent::new(&mut draw, asked));
+    let mut calls = Calls { log: &data, draw, list: a, lines: b, line: c, ws: d, bs: e, counts };
+    calls.read();
+    calls.write(&list);
+    let Ok(log) = Log::read(&data) else { return calls.odd(3, 3) };
+    calls.counts.accepted += 1;
+    calls.odd(log.questions.len(), log.stations());
+    for q in 0..log.questions.len() {
+        let line = calls.answer(q, true).expect("an answer");
+        if listing::count(&log) <= 400 {
+            calls.listed(&log, q, &line);
+        } else {
+            calls.sampled(&log, q);
+        }
+    }
+}

@@ -1,0 +1,11 @@
+//! Document 01 again, in Rust and from the document alone: what the proved code is compared with.
+pub mod basis;
+pub mod check;
+pub mod draw;
+pub mod fault;
+pub mod formula;
+pub mod listing;
+pub mod log;
+pub mod made;
+pub mod operations;
+pub mod proved;

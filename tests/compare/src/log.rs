@@ -1,0 +1,209 @@
+//! Reading: lines, frames, and the computation that they give.
+use crate::fault::{Fault, Refusal};
+use crate::formula::{fits, parse, Token};
+
+pub const STATIONS: usize = 8;
+pub const EVENTS: usize = 127;
+pub const QUESTIONS: usize = 16;
+pub const LOG: usize = 8192;
+pub const LIST: usize = 4096;
+
+/// A count for each station; those past the last are 0.
+pub type Cut = [u8; 8];
+
+pub fn contained(c: &Cut, d: &Cut) -> bool {
+    c.iter().zip(d).all(|(x, y)| x <= y)
+}
+
+#[derive(Clone, Copy)]
+pub struct Event {
+    pub value: u16,
+    pub clock: Cut,
+}
+
+/// Event 0 of a station is its initial value with the empty cut.
+#[derive(Default)]
+pub struct Log {
+    pub history: Vec<Vec<Event>>,
+    pub events: usize,
+    pub questions: Vec<Vec<Token>>,
+    pub list: Vec<u8>,
+}
+
+impl Log {
+    pub fn stations(&self) -> usize {
+        self.history.len()
+    }
+
+    /// The clock of event k of station j is nowhere above c; there is no such clock past the events read.
+    fn below(&self, j: usize, k: usize, c: &Cut) -> Option<bool> {
+        self.history[j].get(k).map(|e| contained(&e.clock, c))
+    }
+
+    /// A cut of as many bytes as stations, if it is consistent.
+    pub fn cut(&self, bytes: &[u8]) -> Result<Cut, Fault> {
+        if bytes.len() != self.stations() {
+            return Err(Fault::CutLength);
+        }
+        let mut c = [0; 8];
+        c[..bytes.len()].copy_from_slice(bytes);
+        if (0..bytes.len()).all(|j| self.below(j, c[j] as usize, &c) == Some(true)) { Ok(c) } else { Err(Fault::NotConsistent) }
+    }
+
+    fn header(&mut self, f: &[u8]) -> Result<(), Fault> {
+        if self.stations() > 0 {
+            return Err(Fault::SecondHeader);
+        }
+        let (&n, values) = f.split_first().ok_or(Fault::HeaderLength)?;
+        if n < 1 || n as usize > STATIONS {
+            return Err(Fault::StationCount);
+        }
+        if values.len() != 2 * n as usize {
+            return Err(Fault::HeaderLength);
+        }
+        let initial = |v: &[u8]| vec![Event { value: u16::from_be_bytes([v[0], v[1]]), clock: [0; 8] }];
+        self.history = values.chunks(2).map(initial).collect();
+        Ok(())
+    }
+
+    fn event(&mut self, f: &[u8]) -> Result<(), Fault> {
+        let n = self.stations();
+        if n == 0 {
+            return Err(Fault::NoHeader);
+        }
+        if !self.questions.is_empty() {
+            return Err(Fault::EventAfterQuestion);
+        }
+        if self.events == EVENTS {
+            return Err(Fault::Event128);
+        }
+        if f.len() != 3 + n {
+            return Err(Fault::EventLength);
+        }
+        let s = f[0] as usize;
+        if s >= n {
+            return Err(Fault::EventStation);
+        }
+        let mut clock = [0; 8];
+        clock[..n].copy_from_slice(&f[3..]);
+        if clock[s] as usize != self.history[s].len() {
+            return Err(Fault::OwnEntry);
+        }
+        for j in 0..n {
+            let k = clock[j] as usize - (j == s) as usize;
+            if !self.below(j, k, &clock).ok_or(Fault::EntryNotRead)? {
+                return Err(Fault::ClockAbove);
+            }
+        }
+        self.history[s].push(Event { value: u16::from_be_bytes([f[1], f[2]]), clock });
+        self.events += 1;
+        Ok(())
+    }
+
+    fn question(&mut self, f: &[u8]) -> Result<(), Fault> {
+        if self.stations() == 0 {
+            return Err(Fault::NoHeader);
+        }
+        if self.questions.len() == QUESTIONS {
+            return Err(Fault::Question17);
+        }
+        let q = parse(f, self.stations())?;
+        fits(&q)?;
+        self.questions.push(q);
+        Ok(())
+    }
+
+    fn admit(&mut self, f: &[u8]) -> Result<(), Fault> {
+        match f[0] {
+            0x10 => self.header(&f[1..]),
+            0x20 => self.event(&f[1..]),
+            0x30 => self.question(&f[1..]),
+            _ => Err(Fault::UnknownKind),
+        }?;
+        self.list.push(f.len() as u8);
+        self.list.extend(f);
+        Ok(())
+    }
+
+    fn finished(self) -> Result<Log, Refusal> {
+        if self.stations() == 0 { Err(Refusal(Fault::EmptyLog, 1)) } else { Ok(self) }
+    }
+
+    pub fn read(data: &[u8]) -> Result<Log, Refusal> {
+        if data.len() > LOG {
+            return Err(Refusal(Fault::LogOver8192, 0));
+        }
+        let (mut log, mut bytes) = (Log::default(), [0; 100]);
+        for (i, line) in data.split_inclusive(|&b| b == 0x0A).enumerate() {
+            frame(line, &mut bytes).and_then(|f| log.admit(f)).map_err(|fault| Refusal(fault, i as u32 + 1))?;
+        }
+        log.finished()
+    }
+
+    pub fn from_list(list: &[u8]) -> Result<Log, Refusal> {
+        let mut log = Log::default();
+        for (i, f) in entries(list).map_err(|fault| Refusal(fault, 0))?.into_iter().enumerate() {
+            log.admit(f).map_err(|fault| Refusal(fault, i as u32 + 1))?;
+        }
+        log.finished()
+    }
+}
+
+/// A frame list's frames.
+pub fn entries(list: &[u8]) -> Result<Vec<&[u8]>, Fault> {
+    if list.len() > LIST {
+        return Err(Fault::ListOver4096);
+    }
+    let (mut frames, mut rest) = (Vec::new(), list);
+    while let Some((&k, tail)) = rest.split_first() {
+        if k == 0 {
+            return Err(Fault::LengthZero);
+        }
+        if k > 99 {
+            return Err(Fault::LengthOver99);
+        }
+        let (f, after) = tail.split_at_checked(k as usize).ok_or(Fault::LengthPastEnd)?;
+        frames.push(f);
+        rest = after;
+    }
+    Ok(frames)
+}
+
+fn digit(b: u8) -> Result<u8, Fault> {
+    match b {
+        b'0'..=b'9' => Ok(b - b'0'),
+        b'A'..=b'F' => Ok(b - b'A' + 10),
+        _ => Err(Fault::NotADigit),
+    }
+}
+
+/// The frame of a line, without its check byte.
+fn frame<'a>(line: &[u8], bytes: &'a mut [u8; 100]) -> Result<&'a [u8], Fault> {
+    let Some((0x0A, digits)) = line.split_last() else { return Err(Fault::NoEndOfLine) };
+    if digits.len() % 2 == 1 {
+        return Err(Fault::OddDigits);
+    }
+    if digits.len() < 4 {
+        return Err(Fault::LineUnder2);
+    }
+    if digits.len() > 200 {
+        return Err(Fault::LineOver100);
+    }
+    let mut sum = 0u8;
+    for (b, d) in bytes.iter_mut().zip(digits.chunks(2)) {
+        *b = digit(d[0])? * 16 + digit(d[1])?;
+        sum = sum.wrapping_add(*b);
+    }
+    if sum == 0 { Ok(&bytes[..digits.len() / 2 - 1]) } else { Err(Fault::CheckByte) }
+}
+
+/// A frame as a line, with its check byte.
+pub fn line(f: &[u8]) -> Vec<u8> {
+    let check = f.iter().fold(0u8, |s, b| s.wrapping_sub(*b));
+    let mut out = Vec::with_capacity(2 * f.len() + 3);
+    for b in f.iter().chain([&check]) {
+        out.extend([b / 16, b % 16].map(|d| b"0123456789ABCDEF"[d as usize]));
+    }
+    out.push(0x0A);
+    out
+}

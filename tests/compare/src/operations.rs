@@ -1,0 +1,92 @@
+//! The four operations of document 01, over the independent implementation.
+use crate::basis::Worker;
+use crate::fault::{Fault, Refusal};
+use crate::formula::{Token, Tokens};
+use crate::log::{entries, line, Cut, Log, LIST, LOG};
+
+pub const WORKSPACE: usize = 65536;
+pub const BARS: usize = 8192;
+pub const LINE: usize = 273;
+
+fn refused<T>(fault: Fault) -> Result<T, Refusal> {
+    Err(Refusal(fault, 0))
+}
+
+/// Bytes at the front of an output.
+fn put(bytes: &[u8], out: &mut [u8]) -> usize {
+    out[..bytes.len()].copy_from_slice(bytes);
+    bytes.len()
+}
+
+/// The counts of stations, events and questions, and the list's length.
+pub fn read(data: &[u8], out: &mut [u8]) -> Result<[usize; 4], Refusal> {
+    let log = Log::read(data)?;
+    if out.len() < LIST {
+        return refused(Fault::Output);
+    }
+    Ok([log.stations(), log.events, log.questions.len(), put(&log.list, out)])
+}
+
+pub fn write(list: &[u8], out: &mut [u8]) -> Result<usize, Refusal> {
+    let log = Log::from_list(list)?;
+    if out.len() < LOG {
+        return refused(Fault::Output);
+    }
+    let lines: Vec<u8> = entries(&log.list).into_iter().flatten().flat_map(line).collect();
+    Ok(put(&lines, out))
+}
+
+fn question(log: &Log, q: usize) -> Result<&[Token], Refusal> {
+    log.questions.get(q).map(Vec::as_slice).ok_or(Refusal(Fault::NoSuchQuestion, 0))
+}
+
+fn room(workspace: usize, bars: usize) -> Result<(), Refusal> {
+    if workspace < WORKSPACE {
+        return refused(Fault::Workspace);
+    }
+    if bars < BARS {
+        return refused(Fault::BarSpace);
+    }
+    Ok(())
+}
+
+pub fn answer_line(start: bool, cuts: &[Cut], stations: usize, rounds: u32) -> Vec<u8> {
+    let mut f = vec![0x40, start as u8, cuts.len() as u8];
+    cuts.iter().for_each(|c| f.extend(&c[..stations]));
+    f.extend(rounds.to_be_bytes());
+    line(&f)
+}
+
+pub fn answer_question(log: &Log, f: &[Token]) -> Vec<u8> {
+    let mut w = Worker::new(log);
+    let basis = w.basis(&mut Tokens(f), true);
+    let start = basis.iter().any(|s| w.belongs(s, &[0; 8]));
+    answer_line(start, &w.tops(&basis), log.stations(), w.rounds)
+}
+
+pub fn answer(data: &[u8], q: usize, workspace: usize, bars: usize, out: &mut [u8]) -> Result<usize, Refusal> {
+    let log = Log::read(data)?;
+    let f = question(&log, q)?;
+    room(workspace, bars)?;
+    if out.len() < LINE {
+        return refused(Fault::Output);
+    }
+    Ok(put(&answer_question(&log, f), out))
+}
+
+pub fn holds(data: &[u8], q: usize, cut: &[u8], workspace: usize, bars: usize) -> Result<bool, Refusal> {
+    let log = Log::read(data)?;
+    let f = question(&log, q)?;
+    let c = log.cut(cut).or_else(refused)?;
+    room(workspace, bars)?;
+    let mut w = Worker::new(&log);
+    Ok(w.basis(&mut Tokens(f), true).iter().any(|s| w.belongs(s, &c)))
+}
+
+/// What the program prints.
+pub fn printed(data: &[u8]) -> Vec<u8> {
+    match Log::read(data) {
+        Err(Refusal(fault, at)) => line(&[0x50, fault.number(), (at / 256) as u8, (at % 256) as u8]),
+        Ok(log) => log.questions.iter().flat_map(|q| answer_question(&log, q)).collect(),
+    }
+}
