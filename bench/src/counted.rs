@@ -1,0 +1,128 @@
+//! Instructions of the whole program under callgrind, and its memory under massif.
+use crate::timed::{rounds, wide_log};
+use compare::log::line;
+use std::fmt::Write;
+use std::fs::{create_dir_all, write, File};
+use std::process::Command;
+
+const PROGRAM: &str = "target/bin/moments";
+const FOLDER: &str = "target/bench";
+
+/// A log in a file under the folder.
+fn file(name: &str, log: &[u8]) -> String {
+    let path = format!("{FOLDER}/{name}.log");
+    create_dir_all(FOLDER).and_then(|_| write(&path, log)).unwrap();
+    path
+}
+
+/// What a program prints on a log, and what valgrind's tool tells of it.
+fn valgrind(words: &[&str], log: &str) -> (String, String) {
+    let out = Command::new("valgrind").args(words).stdin(File::open(log).unwrap()).output().expect("valgrind");
+    assert!(out.status.success(), "{words:?} on {log}");
+    (String::from_utf8(out.stdout).unwrap(), String::from_utf8_lossy(&out.stderr).into_owned())
+}
+
+/// What a program prints on a log, and its instructions.
+fn instructions(program: &[&str], log: &str) -> (String, u64) {
+    let (printed, told) = valgrind(&[&["--tool=callgrind", "--callgrind-out-file=/dev/null"], program].concat(), log);
+    let line = told.lines().find(|l| l.contains("Collected")).unwrap();
+    (printed, line.rsplit(' ').next().unwrap().parse().unwrap())
+}
+
+/// Instructions of the three programs on a log with 16 questions, and what the proved one takes a log byte and a round.
+pub struct Program {
+    stations: usize,
+    events: usize,
+    bytes: usize,
+    rounds: u64,
+    pub proved: u64,
+    pub independent: u64,
+    pub plain: u64,
+    per_byte: f64,
+    per_round: f64,
+}
+
+fn program(stations: usize, events: usize) -> Program {
+    let (data, bare) = (wide_log(stations, events, 16), wide_log(stations, events, 0));
+    let name = format!("{stations}x{events}");
+    let (asked, unasked, empty) = (file(&name, &data), file(&(name + "-bare"), &bare), file("empty", b""));
+    let bench = std::env::current_exe().unwrap();
+    let other = |code: &str| instructions(&[bench.to_str().unwrap(), "print", code], &asked);
+    let (printed, proved) = instructions(&[PROGRAM], &asked);
+    let ((independently, independent), (plainly, plain)) = (other("independent"), other("plain"));
+    assert!(printed == independently && printed == plainly, "the three programs' output");
+    let (reading, beginning) = (instructions(&[PROGRAM], &unasked).1, instructions(&[PROGRAM], &empty).1);
+    let rounds = printed.split_inclusive('\n').map(|l| rounds(l.as_bytes())).sum();
+    Program {
+        stations,
+        events,
+        bytes: data.len(),
+        rounds,
+        proved,
+        independent,
+        plain,
+        per_byte: (reading - beginning) as f64 / bare.len() as f64,
+        per_round: (proved - reading) as f64 / rounds as f64,
+    }
+}
+
+/// For 2 to 8 stations and for fewer events; the last is the largest log.
+pub fn programs() -> Vec<Program> {
+    [(2, 127), (4, 127), (8, 32), (8, 64), (8, 127)].map(|(stations, events)| program(stations, events)).into()
+}
+
+pub fn section(programs: &[Program]) -> String {
+    let mut page = String::from(include_str!("counted.md"));
+    for p in programs {
+        let Program { stations, events, bytes, rounds, proved, independent, plain, per_byte, per_round } = p;
+        writeln!(page, "| {stations} | {events} | {bytes} | {rounds} | {proved} | {independent} | {plain} | {per_byte:.0} | {per_round:.0} |").unwrap();
+    }
+    page
+}
+
+/// The largest log with questions of 32 tokens: 31 of one operand over a range, 29 over an "and", and a chain of "and" or "or" over 11.
+fn deep_log() -> Vec<u8> {
+    let range = |s: u8| vec![1, s, 0, 1, 0, 2];
+    let under = |tokens: &[u8], n: usize| [vec![0x30], tokens.iter().copied().cycle().take(n).collect()].concat();
+    let chain = |token: u8| (0..10).flat_map(|k| [vec![token], range(k % 8)].concat()).collect::<Vec<u8>>();
+    let mut questions = vec![];
+    for tokens in [&[2][..], &[5], &[6], &[6, 2], &[2, 5]] {
+        questions.push([under(tokens, 31), range(0)].concat());
+        questions.push([under(tokens, 29), vec![3], range(0), range(1)].concat());
+    }
+    for (token, last) in [(3, 6), (4, 2)] {
+        questions.push([vec![0x30], chain(token), vec![last; 11], range(7)].concat());
+    }
+    [wide_log(8, 127, 0), questions.iter().flat_map(|q| line(q)).collect()].concat()
+}
+
+/// The most heap and stack, in bytes, that the program has on a log.
+pub struct Memory {
+    log: String,
+    pub heap: u64,
+    pub stack: u64,
+}
+
+fn memory_on(log: String) -> Memory {
+    let out = format!("{FOLDER}/massif.out");
+    let (printed, _) = valgrind(&["--tool=massif", "--stacks=yes", "--peak-inaccuracy=0.0", &format!("--massif-out-file={out}"), PROGRAM], &log);
+    let limited = Command::new("sh").args(["-c", &format!("ulimit -s 256; {PROGRAM} < {log}")]).output().unwrap();
+    assert!(printed.starts_with("40") && printed.as_bytes() == limited.stdout, "the answers of {log}, also with 256 KiB of stack");
+    let told = std::fs::read_to_string(out).unwrap();
+    let most = |key: &str| told.lines().filter_map(|l| l.strip_prefix(key)?.parse().ok()).max().unwrap();
+    Memory { heap: most("mem_heap_B="), stack: most("mem_stacks_B="), log }
+}
+
+pub fn memory() -> [Memory; 2] {
+    [file("8x127", &wide_log(8, 127, 16)), file("deep", &deep_log())].map(memory_on)
+}
+
+pub fn memory_section(memory: &[Memory]) -> String {
+    let mut page = String::from(include_str!("memory.md"));
+    memory.iter().for_each(|Memory { log, heap, stack }| writeln!(page, "| {log} | {heap} | {stack} |").unwrap());
+    let out = Command::new("nm").args(["-D", "--undefined-only", PROGRAM]).output().expect("nm");
+    let names = String::from_utf8_lossy(&out.stdout).into_owned();
+    let names: Vec<String> = names.lines().filter_map(|l| Some(format!("`{}`", l.trim().strip_prefix("U ")?.split('@').next()?))).collect();
+    writeln!(page, "\nWhat the program takes from the C library (`nm -D --undefined-only {PROGRAM}`): {}. None of these allocates.", names.join(", ")).unwrap();
+    page
+}

@@ -1,0 +1,167 @@
+//! Times of one Answer, by stations and events.
+use crate::plain;
+use compare::draw::Draw;
+use compare::formula::Tokens;
+use compare::log::Log;
+use compare::made::{self, Shape};
+use compare::operations::{self, BARS, LINE, WORKSPACE};
+use compare::{listing, proved};
+use std::fmt::{Display, Formatter, Result, Write};
+use std::hint::black_box;
+
+const STATIONS: [usize; 4] = [2, 4, 6, 8];
+const EVENTS: [usize; 5] = [8, 16, 32, 64, 127];
+const QUESTIONS: usize = 16;
+const RUNS: usize = 25;
+const LISTED: usize = 20_000;
+
+/// A median and its quartiles.
+#[derive(Clone, Copy)]
+pub struct Spread {
+    pub low: f64,
+    pub median: f64,
+    pub high: f64,
+}
+
+impl Spread {
+    fn of(figures: impl Iterator<Item = f64>) -> Self {
+        let mut all: Vec<f64> = figures.collect();
+        all.sort_by(f64::total_cmp);
+        let at = |quarter: usize| all[(all.len() - 1) * quarter / 4];
+        Spread { low: at(1), median: at(2), high: at(3) }
+    }
+}
+
+impl Display for Spread {
+    fn fmt(&self, f: &mut Formatter) -> Result {
+        let p = f.precision().unwrap_or(1);
+        write!(f, "{:.p$} ({:.p$} to {:.p$})", self.median, self.low, self.high)
+    }
+}
+
+#[derive(Clone, Copy)]
+pub struct Row {
+    pub stations: usize,
+    pub events: usize,
+    rounds: f64,
+    pub proved: Spread,
+    pub independent: Spread,
+    pub plain: Spread,
+    pub listing: Option<Spread>,
+    /// The proved code's time over the others' in the same run.
+    pub to_independent: Spread,
+    pub to_plain: Spread,
+}
+
+/// A log with questions of width 16, one event in three of which has seen another station. A shorter one is the beginning of a longer.
+pub fn wide_log(stations: usize, events: usize, questions: usize) -> Vec<u8> {
+    let (d, asked) = (&mut Draw(0), &mut Draw(1));
+    let shape = Shape { stations, events, questions: 0, ranges: 0, step: 1 };
+    let mut fs = vec![made::header(d, shape)];
+    fs.extend(made::events(d, shape, 3));
+    fs.extend((0..questions).map(|_| [vec![0x30], made::product(asked, shape, &[2, 2, 2, 2])].concat()));
+    made::lines(&fs)
+}
+
+/// The rounds that an answer line tells.
+pub fn rounds(line: &[u8]) -> u64 {
+    let digits = &line[line.len() - 11..line.len() - 3];
+    u64::from_str_radix(std::str::from_utf8(digits).unwrap(), 16).unwrap()
+}
+
+/// The processor time of this thread so far, in microseconds.
+fn clock() -> f64 {
+    extern "C" {
+        fn clock_gettime(clock: i32, time: *mut [i64; 2]) -> i32;
+    }
+    const THREAD: i32 = 3;
+    let mut time = [0; 2];
+    assert_eq!(unsafe { clock_gettime(THREAD, &mut time) }, 0);
+    time[0] as f64 * 1e6 + time[1] as f64 / 1e3
+}
+
+/// Microseconds of processor time that some work takes.
+pub fn micros(work: impl FnOnce()) -> f64 {
+    let began = clock();
+    work();
+    clock() - began
+}
+
+/// The maximal cuts and the start, by a listing of every cut.
+fn listed(data: &[u8]) -> (usize, bool) {
+    let log = Log::read(data).unwrap();
+    let cuts = listing::consistent(&log);
+    let truth = listing::truth(&log, &cuts, &mut Tokens(&log.questions[0]));
+    (listing::maximal(&cuts, &truth).len(), truth[0])
+}
+
+fn row(stations: usize, events: usize) -> Row {
+    let data = wide_log(stations, events, QUESTIONS);
+    let log = Log::read(&data).unwrap();
+    let (mut ws, mut bs, mut out) = (vec![1; WORKSPACE], vec![1; BARS], vec![1; LINE]);
+    let mut sum = 0;
+    for (q, f) in log.questions.iter().enumerate() {
+        let n = proved::answer(&data, q, &mut ws, &mut bs, &mut out).unwrap();
+        assert_eq!(out[..n], plain::answer_question(&log, f), "the plain code's line");
+        sum += rounds(&out[..n]);
+    }
+    let mut run = || {
+        let proved = micros(|| (0..QUESTIONS).for_each(|q| _ = black_box(proved::answer(&data, q, &mut ws, &mut bs, &mut out))));
+        let independent = micros(|| (0..QUESTIONS).for_each(|q| _ = black_box(operations::answer(&data, q, WORKSPACE, BARS, &mut out))));
+        let plain = micros(|| (0..QUESTIONS).for_each(|q| _ = black_box(plain::answer(&data, q, &mut out))));
+        [proved, independent, plain].map(|t| t / QUESTIONS as f64)
+    };
+    let runs: Vec<[f64; 3]> = (0..RUNS).map(|_| run()).collect();
+    let small = listing::count(&log) <= 100 * LISTED && listing::consistent(&log).len() <= LISTED;
+    Row {
+        stations,
+        events,
+        rounds: sum as f64 / QUESTIONS as f64,
+        proved: Spread::of(runs.iter().map(|r| r[0])),
+        independent: Spread::of(runs.iter().map(|r| r[1])),
+        plain: Spread::of(runs.iter().map(|r| r[2])),
+        listing: small.then(|| Spread::of((0..5).map(|_| micros(|| _ = black_box(listed(&data)))))),
+        to_independent: Spread::of(runs.iter().map(|r| r[0] / r[1])),
+        to_plain: Spread::of(runs.iter().map(|r| r[0] / r[2])),
+    }
+}
+
+pub fn grid() -> Vec<Row> {
+    STATIONS.iter().flat_map(|&stations| EVENTS.map(|events| row(stations, events))).collect()
+}
+
+/// The slope of log y over log x, by least squares.
+fn slope(points: &[(f64, f64)]) -> f64 {
+    let logs: Vec<(f64, f64)> = points.iter().map(|(x, y)| (x.ln(), y.ln())).collect();
+    let n = logs.len() as f64;
+    let (mx, my) = (logs.iter().map(|p| p.0).sum::<f64>() / n, logs.iter().map(|p| p.1).sum::<f64>() / n);
+    logs.iter().map(|p| (p.0 - mx) * (p.1 - my)).sum::<f64>() / logs.iter().map(|p| (p.0 - mx).powi(2)).sum::<f64>()
+}
+
+/// The exponents in events of rounds, the proved code's time and the independent code's.
+pub fn growth(rows: &[Row], stations: usize) -> [f64; 3] {
+    let some = || rows.iter().filter(|r| r.stations == stations && r.events >= 16);
+    let of = |figure: fn(&Row) -> f64| slope(&some().map(|r| (r.events as f64, figure(r))).collect::<Vec<_>>());
+    [of(|r| r.rounds), of(|r| r.proved.median), of(|r| r.independent.median)]
+}
+
+pub fn section(rows: &[Row]) -> String {
+    let mut page = String::from(include_str!("timed.md"));
+    for r in rows {
+        let listing = r.listing.map_or("-".into(), |t| format!("{t:.0}"));
+        writeln!(
+            page,
+            "| {} | {} | {:.0} | {:.1} | {:.1} | {:.1} | {listing} | {:.2} | {:.2} |",
+            r.stations, r.events, r.rounds, r.proved, r.independent, r.plain, r.to_independent, r.to_plain
+        )
+        .unwrap();
+    }
+    page += "\n![Time of one Answer by events](performance.svg)\n\n## Growth in events\n\n";
+    page += "Exponents of rounds and of time over the events, by least squares over 16 to 127 events.\n\n";
+    page += "| stations | rounds | proved | independent |\n|---|---|---|---|\n";
+    for stations in STATIONS {
+        let [rounds, proved, independent] = growth(rows, stations);
+        writeln!(page, "| {stations} | {rounds:.2} | {proved:.2} | {independent:.2} |").unwrap();
+    }
+    page
+}

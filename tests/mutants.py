@@ -1,0 +1,107 @@
+#!/usr/bin/env python3
+"""Tries wrong rules in the independent implementation, and reports how many logs of the corpus tell each apart.
+
+Usage: mutants.py      from the repository's root; exit code 1 if fewer than ten logs tell a rule of RULES apart
+"""
+import pathlib
+import subprocess
+import sys
+import tempfile
+
+LEAST = 10
+CORPUS, SOURCE = pathlib.Path("crates/corpus"), pathlib.Path("tests/compare/src")
+PARTS = ["basis", "fault", "formula", "log", "operations"]
+
+# A wrong rule, and the texts that it puts in place of others.
+RULES = {
+    "one round a start": {"            c = d;\n": "            return (d, rounds);\n"},
+    "right set first": {"self.raise(left, &c)": "self.raise(right, &c)", "self.raise(right, &d)": "self.raise(left, &d)"},
+    "dropped by each bar": {"!self.bars.is_empty() && {": "{", "self.bars.iter().any(": "self.bars.iter().all("},
+    "dropped by all bars only": {"self.bars.iter().any(": "self.bars.iter().all("},
+    "never dropped by a bar": {"self.bars.iter().any(|b| contained(&top, b))": "false"},
+    "last round uncounted": {"return (d, rounds);": "return (d, rounds - (d == c) as u32);"},
+    "early stop after an empty start": {"            self.rounds += rounds;\n": "            self.rounds += rounds;\n            if rows[0] == NONE {\n                break;\n            }\n"},
+    "right operand skipped": {
+        "let (left, right) = (self.basis(f, sign), self.basis(f, sign));": "let left = self.basis(f, sign);\nlet rounds = self.rounds;\nlet right = self.basis(f, sign);\nif left.is_empty() { self.rounds = rounds }"
+    },
+    "unsorted": {"        all.sort_unstable();\n        all.dedup();\n": "        let mut seen = Vec::new();\n        all.retain(|c| !seen.contains(c) && { seen.push(*c); true });\n"},
+    "duplicates kept": {"        all.dedup();\n": "", "k != i && contained": "all[k] != all[i] && contained"},
+    "contained cuts listed": {"k != i && contained(&all[i], &all[k])": "false"},
+    "possibly strictly later": {"if contained(start, &top) {": "if contained(start, &top) && *start != top {"},
+    "round that came to none uncounted": {"return (NONE, rounds);": "return (NONE, rounds - 1);", "return (d, rounds);": "return (d, rounds - (d[0] == 255) as u32);"},
+    "every start from the empty cut": {"&right.rows, self.starts[i]);": "&right.rows, self.starts[0]);"},
+    "the smaller count in a join": {"*x = (*x).max(*y);": "*x = (*x).min(*y);"},
+    "bars of the left side alone": {"left.bars.iter().chain(&right.bars).copied()": "left.bars.iter().copied()"},
+    "bars lost in not possibly": {"let bars = self.basis(f, !sign).iter().map(": "let bars = self.basis(f, !sign).iter().take(0).map("},
+    "bars kept in possibly": {"        s.bars.clear();\n": ""},
+    "range as true under not": {"(lo <= v && v <= hi) == sign": "lo <= v && v <= hi"},
+    "bars not looked at by the start": {" && !s.bars.iter().any(|b| contained(c, b))": ""},
+    "hi left out": {"(lo <= v && v <= hi) == sign": "(lo <= v && (v < hi || lo == hi && v == lo)) == sign"},
+    "lo equal to hi refused": {"if lo > hi {": "if lo >= hi {"},
+    "bytes after the formula": {"if q.is_empty() { Ok(tokens)": "if true { Ok(tokens)"},
+    "line of 101 bytes": {"bytes: &'a mut [u8; 100]": "bytes: &'a mut [u8; 101]", "(Log::default(), [0; 100])": "(Log::default(), [0; 101])", "digits.len() > 200": "digits.len() > 202"},
+    "line one too low": {"log.admit(f)).map_err(|fault| Refusal(fault, i as u32 + 1))?": "log.admit(f)).map_err(|fault| Refusal(fault, i as u32))?"},
+}
+
+# Wrong rules about limits and lines that few or no logs of the corpus tell apart: reported, not judged. The logs of tests/compare do.
+SELDOM = {
+    "width of and adds": {"(v * w, a + b)": "(v + w, a + b)"},
+    "width 17 accepted": {"if width > 16 {": "if width > 17 {"},
+    "bars of and not added": {"(v * w, a + b)": "(v * w, a.max(b))"},
+    "own predecessor not looked at": {"(j == s) as usize;\n": "(j == s) as usize;\n            if j == s { continue }\n"},
+    "lower case digits": {"b'A'..=b'F' =>": "b'a'..=b'f' => Ok(b - b'a' + 10),\n        b'A'..=b'F' =>"},
+}
+
+# Answers the logs of the corpus one by one: a line with a full stop closes each but the last.
+MAIN = """
+use std::io::{Read, Write};
+fn main() {
+    let mut data = Vec::new();
+    std::io::stdin().read_to_end(&mut data).unwrap();
+    let (mut log, mut out) = (Vec::new(), Vec::new());
+    for line in data.split_inclusive(|&b| b == b'\\n').chain([&b".\\n"[..]]) {
+        if line == b".\\n" {
+            out.extend(operations::printed(&log));
+            out.extend(b".\\n");
+            log.clear();
+        } else {
+            log.extend(line);
+        }
+    }
+    std::io::stdout().write_all(&out).unwrap();
+}
+"""
+
+
+def answers(folder, edits):
+    """What the implementation with these edits prints for each log of the corpus."""
+    texts = {part: (SOURCE / f"{part}.rs").read_text() for part in PARTS}
+    for old, new in edits.items():
+        if sum(text.count(old) for text in texts.values()) != 1:
+            sys.exit(f"not once there: {old!r}")
+        texts = {part: text.replace(old, new) for part, text in texts.items()}
+    for part, text in texts.items():
+        (folder / f"{part}.rs").write_text(text)
+    subprocess.run(["rustc", "--edition", "2021", "-O", "-A", "warnings", "main.rs"], cwd=folder, check=True)
+    with open(CORPUS / "stdin", "rb") as logs:
+        return subprocess.run([folder / "main"], stdin=logs, capture_output=True, check=True).stdout.split(b".\n")
+
+
+def main():
+    expected = (CORPUS / "stdout").read_bytes().split(b".\n")
+    few = False
+    with tempfile.TemporaryDirectory() as name:
+        folder = pathlib.Path(name)
+        (folder / "main.rs").write_text("".join(f"mod {part};\n" for part in PARTS) + MAIN)
+        if answers(folder, {}) != expected:
+            sys.exit("the implementation as it stands does not print what is expected")
+        print(f"{'wrong rule':36} told apart by, of {len(expected) - 1} logs")
+        for rule, edits in (RULES | SELDOM).items():
+            told = sum(a != b for a, b in zip(answers(folder, edits), expected, strict=True))
+            few = few or (rule in RULES and told < LEAST)
+            note = "" if told >= LEAST else ", too few" if rule in RULES else ", not judged"
+            print(f"{rule:36} {told}{note}", flush=True)
+    sys.exit(1 if few else 0)
+
+
+main()
