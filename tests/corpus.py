@@ -10,7 +10,7 @@ import sys
 
 from listing import encode, printed
 
-LOGS, SEED = 4400, 20261115
+LOGS, EDGES, SEED = 4600, 80, 20261115
 
 
 class Draw:
@@ -139,18 +139,61 @@ def spoiled(d, log):
     return bytes(log)
 
 
+def ors(d, n, k):
+    return [4] * (k - 1) + [b for _ in range(k) for b in atom(d, n, 4)]
+
+
+def bounded(d, n):
+    """A question just within or just over the limit of width or of bars."""
+    ways = lambda a, b: [3] + ors(d, n, a) + ors(d, n, b)
+    kind = d.below(3)
+    if kind == 0:
+        return ways(*d.pick([(4, 4), (2, 8), (5, 3), (5, 4), (3, 6), (2, 9)]))
+    if kind == 1:
+        return [4] + ways(*d.pick([(4, 4), (5, 3)])) + atom(d, n, 4)
+    return [3, 2, 5] + ways(3, 3) + [2, 5] + ways(*d.pick([(2, 3), (2, 4), (3, 3)]))
+
+
+def forgetful(d):
+    """An event that has not seen what the one before it at its station has."""
+    n = 2 + d.below(3)
+    s = d.below(n)
+    j = (s + 1 + d.below(n - 1)) % n
+    clock = lambda a, b: [a if i == s else b if i == j else 0 for i in range(n)]
+    events = [[j] + word(d.below(4)) + clock(0, 1), [s] + word(d.below(4)) + clock(1, 1), [s] + word(d.below(4)) + clock(2, d.below(2))]
+    return [[0x10, n] + [0, 0] * n] + [[0x20] + e for e in events] + [[0x30] + formula(d, n, 2)]
+
+
+def lowered(d, log):
+    """The log with one letter of its digits in lower case."""
+    log = bytearray(log)
+    i = d.pick([i for i, b in enumerate(log) if b in b"ABCDEF"])
+    log[i] += 32
+    return bytes(log)
+
+
+def edges(d):
+    """Logs at limits that drawn ones seldom meet."""
+    for _ in range(EDGES):
+        fs = frames(d)
+        yield b"".join(map(encode, fs + [[0x30] + bounded(d, fs[0][1])]))
+        yield b"".join(map(encode, forgetful(d)))
+        yield lowered(d, b"".join(map(encode, fs)))
+
+
 def logs(count, seed):
     d = Draw(seed)
     yield b""
     yield b"\n"
     yield b"0" * 8192 + b"\n"
     yield encode([0x10, 1, 0, 0]) * 3
-    for _ in range(count - 5):
+    for _ in range(count - 5 - 3 * EDGES):
         fs, way = frames(d), d.below(10)
         if way < 3:
             fs = damaged(d, fs)
         log = b"".join(map(encode, fs))
         yield spoiled(d, log) if way == 9 else log
+    yield from edges(d)
     yield encode([0x10, 1, 0, 0])[:-1]
 
 
