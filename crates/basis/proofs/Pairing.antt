@@ -28,7 +28,8 @@ use Rattle.lattice.proofs.Held.{held-both}
 use Rattle.structure.proofs.Places.{one-more, cells-are}
 use Rattle.structure.proofs.Standing.{standing-same, length-standing}
 use Rattle.modal.specs.Post.{Least}
-use Rattle.modal.proofs.Laws.{put-end, part-room}
+use Rattle.structure.proofs.Parts.{put-end}
+use Rattle.modal.proofs.Laws.{part-room}
 use Rattle.basis.specs.Signed.{twoToken, joinedBasis, joinedRounds}
 use Rattle.basis.specs.Contract.{Ready, Made, Combined}
 use Rattle.pairs.specs.Post.{PairsReady}

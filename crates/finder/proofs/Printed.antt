@@ -6,8 +6,8 @@ use Prim.Native.Nat.{ℕ, zero, suc, _+_, _-_, _≤_, _<_}
 use native.Mathlib.Omega.{arith}
 use native.Mathlib.Numerals.{add-one}
 use lib.ListN.{length, take, drop, getElem?, length-append, length-drop}
-use lib.Seq.{take-at, drop-at, take-all, drop-drop, drop-length}
-use borrow.Rule.Slice.PartMut.{putMid, post-is}
+use lib.Seq.{take-at, drop-at, take-all, drop-drop}
+use borrow.Rule.Slice.PartMut.{putMid}
 use Rattle.model.specs.Limits.{limits}
 use Rattle.model.specs.Formula.{Formula}
 use Rattle.model.specs.Computation.{Computation}
@@ -16,13 +16,11 @@ use Rattle.model.specs.Reading.{Reading, refused, accepted, readLog}
 use Rattle.model.specs.Operations.{answerLines, printedOf, printed}
 use Rattle.codec.proofs.Demands.{asked-line-fits}
 use Rattle.frame.specs.declared.State.{State}
+use Rattle.structure.proofs.Parts.{put-end}
 use Rattle.report.specs.Written.{Written}
 use Rattle.verdict.specs.Questions.{Asks, Question}
 use Rattle.finder.specs.Prepared.{Prepared}
 use Rattle.finder.proofs.Logs.{question-there, question-count, asks, is-asked, question}
-
-put-end : (k : ℕ) (w p : List ℕ) → k ≤ length w → putMid k (length w - k) w p ≡ take k w ++ p
-put-end k w p h = rw (post-is k (length w) w h, drop-length w, append-nil p)
 
 lines-append : (K : Computation) (l m : List Formula) → answerLines K (l ++ m) ≡ answerLines K l ++ answerLines K m
 unfolding answerLines

@@ -14,6 +14,7 @@ use Rattle.model.specs.Frames.{word}
 use Rattle.model.specs.Computation.{Computation, stations, count, clockOk, clock, value}
 use Rattle.model.specs.Reading.{Reading, check, stationOf, eventForm, extended, admit, admitEvent, go, fault}
 use Rattle.wire.specs.Put.{putOf}
+use Rattle.lattice.proofs.Histories.{eventCount-extended, count-same, count-other, value-old, value-new, clock-old, clock-new}
 use Rattle.frame.specs.declared.State.{State}
 use Rattle.frame.specs.declared.Step.the-variants.{Next}
 use Rattle.frame.specs.Table.{slot, Stored}
@@ -21,7 +22,6 @@ use Rattle.frame.specs.State.{withEvent, Bounded, Holds, Goes, Admits}
 use Rattle.frame.proofs.Parts.{part-same, part-other}
 use Rattle.frame.proofs.Slots.{apart, word-take, value-at, clock-at}
 use Rattle.frame.proofs.Steps.{Frame, kind-event, kind-front, begun-not, begun-yes, unasked-not, unasked-yes, events-full, events-room}
-use Rattle.frame.proofs.Extended.{one-more, count-same, count-other, value-old, value-new, clock-old, clock-new}
 
 -- FAULTS
 
@@ -96,7 +96,7 @@ module _ {K : Computation} {n : ℕ} {counts t : List ℕ} (g : Stored K n count
         rw (z, getD-set-same counts s (getD counts s 0 + 1) 0 (omega arith), count-same K s (record { value = word bytes; clock = drop 2 bytes }) in-events) (omega (arith, g .each s))
     case false q =
         let z : j ≡ s → ⊥ = eqb-false j s q in
-        rw (getD-set-other counts s j (getD counts s 0 + 1) 0 z, count-other K s (record { value = word bytes; clock = drop 2 bytes }) in-events j z) (g .each j)
+        rw (getD-set-other counts s j (getD counts s 0 + 1) 0 z, count-other K s (record { value = word bytes; clock = drop 2 bytes }) j z) (g .each j)
 
   -- the new event's slot
   new-slot : take (n + 2) (drop place after) ≡ bytes
@@ -154,7 +154,7 @@ module _ {K : Computation} {n : ℕ} {counts t : List ℕ} (g : Stored K n count
         let w : k ≤ count K j = omega (arith, eqb-false k (suc (count K s)) q) in
         (old-value j k l w, old-clock j k l w)
     case false p b q =
-        let u : count now j ≡ count K j = count-other K s (record { value = word bytes; clock = drop 2 bytes }) in-events j (eqb-false j s p) in
+        let u : count now j ≡ count K j = count-other K s (record { value = word bytes; clock = drop 2 bytes }) j (eqb-false j s p) in
         let w : k ≤ count K j = omega arith in
         (old-value j k l w, old-clock j k l w)
 
@@ -206,7 +206,7 @@ module _ {s : State} (b : Bounded s) (j : ℕ) (there : j < s .stations) (room :
         holds = rw (e, u, ← d) (record {
           stored = stored-more (h .stored) (h .sizes) (b .few-stations) (b .eight) long j there (λ i. omega (arith, b .each i)) (drop 2 f) (omega (arith, length-drop 2 f));
           sizes = length-set (r .computation .events) j _ ∙ h .sizes;
-          events = ap (λ (x : ℕ). x + 1) (h .events) ∙ omega (arith, one-more (r .computation) j (record { value = word (drop 2 f); clock = drop 2 (drop 2 f) }) m);
+          events = ap (λ (x : ℕ). x + 1) (h .events) ∙ omega (arith, eventCount-extended (r .computation) j (record { value = word (drop 2 f); clock = drop 2 (drop 2 f) }) m);
           questions = h .questions;
         });
       }

@@ -4,17 +4,17 @@ use mathlib.Core.Bool.{Bool, true, false, and-false}
 use mathlib.Core.List.{List, [], _∷_, _++_}
 use Prim.Native.Nat.{ℕ, zero, suc, _+_, _*_, _<_, _≤_}
 use native.Mathlib.Omega.{arith}
-use native.Mathlib.Nat.{zero-add}
 use lib.Dec.{eqb, ltb}
 use borrow.Author.Tests.{eq-eqb, ne-eqb, le-leb, lt-leb, eqb-true, eqb-false, ltb-true, ltb-false}
-use lib.ListN.{length, take, drop, getD, length-drop, length-replicate, getD-replicate, length-map, List·getD-map, List·getD-eq-default}
+use lib.ListN.{length, take, drop, getD, length-drop, length-replicate, getD-replicate, List·getD-eq-default}
 use lib.Seq.{getD-drop, getD-take, length-take-le, drop-drop, ext-getD}
 use Rattle.model.specs.Limits.{limits}
-use Rattle.model.specs.Lists.{sum, between}
+use Rattle.model.specs.Lists.{between}
 use Rattle.model.specs.Frames.{word, words}
 use Rattle.model.specs.Cut.{_!_, empty}
-use Rattle.model.specs.Computation.{stations, count, eventCount, clock, value}
+use Rattle.model.specs.Computation.{stations, clock, value}
 use Rattle.model.specs.Reading.{Reading, headerForm, opened, check, admit, admitHeader, go, fault}
+use Rattle.lattice.proofs.Histories.{length-opened, count-opened, eventCount-opened}
 use Rattle.wire.specs.Put.{putOf}
 use Rattle.frame.specs.declared.State.{State}
 use Rattle.frame.specs.declared.Step.the-variants.{Next}
@@ -125,15 +125,6 @@ word-at (suc j) (x ∷ y ∷ l) h =
     let d : 2 * suc j + 1 ≡ suc (suc (2 * j + 1)) = omega arith in
     rw (d, e) (word-at j l (omega arith))
 
-no-count : (values : List ℕ) (j : ℕ) → count (opened values) j ≡ 0
-unfolding opened
-no-count values j = ap length (List·getD-map (λ (v : ℕ). []) values j 0)
-
-no-events : (values : List ℕ) → eventCount (opened values) ≡ 0
-unfolding opened sum
-no-events [] = refl
-no-events (x ∷ values) = rw zero-add (no-events values)
-
 zeros : (n : ℕ) → n ≤ 8 → take n (empty 8) ≡ empty n
 zeros n h =
     let k : length (take n (empty 8)) ≡ n = length-take-le n (empty 8) h in
@@ -168,10 +159,10 @@ module _ {f t : List ℕ} {n : ℕ} (few : n ≤ 8) (long : length f ≡ 2 * n +
   unfolding opened value clock
   stored-first = record {
     size = sized;
-    each = λ j. zero-at j ∙ sym (no-count (words (drop 2 f)) j);
+    each = λ j. zero-at j ∙ sym (count-opened (words (drop 2 f)) j);
     table = record {
-      values = λ j k l m. at-value j k (rw sized at l) (omega (arith, no-count (words (drop 2 f)) j));
-      clocks = λ j k l m. at-clock j k (rw sized at l) (omega (arith, no-count (words (drop 2 f)) j));
+      values = λ j k l m. at-value j k (rw sized at l) (omega (arith, count-opened (words (drop 2 f)) j));
+      clocks = λ j k l m. at-clock j k (rw sized at l) (omega (arith, count-opened (words (drop 2 f)) j));
     };
   } where
     at-value : (j k : ℕ) → j < n → k ≤ 0 → word (drop (slot j k) t) ≡ value (opened (words (drop 2 f))) j k
@@ -197,8 +188,8 @@ module _ {s : State} {f t t′ : List ℕ} {n : ℕ} (b : Bounded s) (d : Headed
     frames = refl;
     holds = record {
       stored = stored-first (d .few) (d .long some) o;
-      sizes = length-map (words (drop 2 f)) (λ (v : ℕ). []);
-      events = sym (no-events (words (drop 2 f)));
+      sizes = length-opened (words (drop 2 f));
+      events = sym (eventCount-opened (words (drop 2 f)));
       questions = g .holds .questions;
     };
   }

@@ -3,6 +3,5 @@ pub mod Clocks
 pub mod Slots
 pub mod Steps
 pub mod Headers
-pub mod Extended
 pub mod Events
 pub mod Questions

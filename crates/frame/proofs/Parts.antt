@@ -4,13 +4,10 @@ use mathlib.Core.Logic.{_⊎_, ⊎-elim}
 use mathlib.Core.List.{List, _++_, append-assoc}
 use Prim.Native.Nat.{ℕ, _+_, _-_, _<_, _≤_}
 use native.Mathlib.Omega.{arith}
-use lib.ListN.{length, take, drop, getD, length-append, length-drop, List·getD-append}
+use lib.ListN.{length, take, drop, getD, length-drop, List·getD-append}
 use lib.Seq.{take-at, drop-at, length-take-le, getD-take, getD-drop, getD-append-add, ext-getD}
 use Rattle.wire.specs.Put.{putOf}
-use Rattle.wire.proofs.Puts.{length-put}
-
-len-front : (d s : List ℕ) (at : ℕ) → at ≤ length d → length (take at d ++ s) ≡ at + length s
-len-front d s at h = simp length-append (omega (arith, length-take-le at d h))
+use Rattle.wire.proofs.Puts.{front-length, length-put}
 
 -- what is put leaves the bytes before it and the bytes after it
 module _ (d s : List ℕ) (at : ℕ) (fits : at + length s ≤ length d) where
@@ -18,13 +15,13 @@ module _ (d s : List ℕ) (at : ℕ) (fits : at + length s ≤ length d) where
   unfolding putOf
   get-before m h =
       let l : length (take at d) ≡ at = length-take-le at d (omega arith) in
-      List·getD-append (take at d ++ s) (drop (at + length s) d) 0 m (omega (arith, len-front d s at (omega arith)))
+      List·getD-append (take at d ++ s) (drop (at + length s) d) 0 m (omega (arith, front-length d s at (omega arith)))
       ∙ List·getD-append (take at d) s 0 m (omega arith) ∙ getD-take at d m 0 h
 
   get-after : (m : ℕ) → at + length s ≤ m → getD (putOf d at s) m 0 ≡ getD d m 0
   unfolding putOf
   get-after m h =
-      let f : length (take at d ++ s) ≡ at + length s = len-front d s at (omega arith) in
+      let f : length (take at d ++ s) ≡ at + length s = front-length d s at (omega arith) in
       let e : length (take at d ++ s) + (m - (at + length s)) ≡ m = omega arith in
       let g : getD (take at d ++ s ++ drop (at + length s) d) (length (take at d ++ s) + (m - (at + length s))) 0 ≡ getD (drop (at + length s) d) (m - (at + length s)) 0
       = getD-append-add (take at d ++ s) (drop (at + length s) d) (m - (at + length s)) 0 in

@@ -1,10 +1,10 @@
 -- A list that is written from its front: what stands before a place after one more cell, one more row, one more station. Assumes nothing.
 use mathlib.Core.Path.{_≡_, sym, ap, _∙_}
 use mathlib.Core.List.{List, [], _∷_, _++_, append-assoc, append-nil}
-use Prim.Native.Nat.{ℕ, suc, _+_, _*_, _≤_, _<_}
+use Prim.Native.Nat.{ℕ, suc, _+_, _*_, _<_}
 use native.Mathlib.Omega.{arith}
 use native.Mathlib.Numerals.{add-one}
-use native.Mathlib.Nat.{add-zero, suc-mul, add-mul, mul-le-mul-right}
+use native.Mathlib.Nat.{add-zero, add-mul}
 use lib.ListN.{length, take, drop, getD, set, length-drop}
 use lib.Seq.{take-suc, take-suc-set, getD-drop}
 use Rattle.model.specs.Frames.{word}
@@ -72,7 +72,3 @@ unfolding startsIn clockIn inTurn sum
 starts-first t counts d d′ n q =
     let w : (0 + 1) * n ≡ 0 + n = omega arith in
     rw (w, append-nil (take n (drop 2 t))) q
-
--- one more row of n cells within m rows
-pub row-fits : (k m n : ℕ) → k < m → k * n + n ≤ m * n
-row-fits k m n h = omega (arith, suc-mul k n, mul-le-mul-right {m = suc k} {n = m} n h)

@@ -1,8 +1,8 @@
 -- Sums of the first counts: one more count, and their bound. Assumes nothing.
 use mathlib.Core.Path.{_≡_, refl, _∙_}
 use mathlib.Core.Bool.{Bool, true, false}
-use mathlib.Core.List.{List, [], _∷_}
-use Prim.Native.Nat.{ℕ, zero, suc, _+_, _*_, _≤_, _<_}
+use mathlib.Core.List.{List}
+use Prim.Native.Nat.{ℕ, _+_, _*_, _≤_, _<_}
 use native.Mathlib.Omega.{arith}
 use native.Mathlib.Numerals.{add-one}
 use native.Mathlib.Nat.{add-mul, mul-le-mul-right}
@@ -10,20 +10,8 @@ use lib.ListN.{length, getD, take, set}
 use lib.Seq.{getD-take, getD-set-same, getD-set-other}
 use lib.Dec.{eqb}
 use borrow.Author.Tests.{eqb-true, eqb-false}
-use Rattle.model.specs.Lists.{sum, total}
-
-pub total-suc : (l : List ℕ) (j : ℕ) → total (take (suc j) l) ≡ total (take j l) + getD l j 0
-unfolding sum
-total-suc [] zero = refl
-total-suc [] (suc j) = refl
-total-suc (x ∷ l) zero = omega arith
-total-suc (x ∷ l) (suc j) = omega (arith, total-suc l j)
-
-pub total-front : (l : List ℕ) (j : ℕ) → total (take j l) ≤ total l
-unfolding sum
-total-front l zero = omega arith
-total-front [] (suc j) = omega arith
-total-front (x ∷ l) (suc j) = omega (arith, total-front l j)
+use Rattle.model.specs.Lists.{total}
+use Rattle.lattice.proofs.Sums.{total-suc, total-take}
 
 -- station j of n
 module _ (counts : List ℕ) (n j : ℕ) (h : j < n) where
@@ -31,7 +19,7 @@ module _ (counts : List ℕ) (n j : ℕ) (h : j < n) where
   sum-next = rw (add-one j, total-suc (take n counts) j, getD-take n counts j 0 h)
 
   pub sum-few : total (take j (take n counts)) + getD counts j 0 ≤ total (take n counts)
-  sum-few = omega (arith, sum-next, total-front (take n counts) (j + 1))
+  sum-few = omega (arith, total-take (take n counts) j, getD-take n counts j 0 h)
 
 -- x + 1 rows of n cells
 pub rows-fit : (x n : ℕ) → x ≤ 127 → n ≤ 8 → (x + 1) * n ≤ 1024

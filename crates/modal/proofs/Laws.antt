@@ -8,9 +8,9 @@ use mathlib.Core.Bool.{Bool, true, false, cond}
 use mathlib.Core.Option.{none, some}
 use lib.Dec.{eqb, ltb}
 use lib.ListN.{length, getD, take, drop, set, replicate, length-drop, length-replicate, getD-replicate, List·getD-append}
-use lib.Seq.{paste, length-take-le, take-at, drop-at, drop-drop, take-all, getD-take, getD-drop, getD-append-add, drop-length}
+use lib.Seq.{paste, length-take-le, take-at, drop-at, drop-drop, take-all, getD-take, getD-drop, getD-append-add}
 use borrow.Author.Tests.{eq-eqb, ne-eqb, eqb-false, ltb-true, ltb-false}
-use borrow.Rule.Slice.PartMut.{putMid, post-is}
+use borrow.Rule.Slice.PartMut.{putMid}
 use Rattle.model.specs.Lists.{total}
 use Rattle.model.specs.Cut.{Cut, inside, insideAny}
 use Rattle.model.specs.Computation.{Computation, full}
@@ -20,7 +20,7 @@ use Rattle.lattice.proofs.Cuts.{⊑-inside, join-at, empty-⊑}
 use Rattle.structure.specs.Layout.{decoded, rowsAt, stationsAt, structureAt, standing, barsAt, cells, barCells}
 use Rattle.structure.specs.Laid.{Laid}
 use Rattle.steps.specs.Rows.{rowAt, absent, belowRow, Ended}
-use Rattle.structure.proofs.Parts.{part-same, paste-part, paste-take}
+use Rattle.structure.proofs.Parts.{part-same, paste-part, paste-take, put-end}
 use Rattle.structure.proofs.Rows.{decoded-none, decoded-some}
 use Rattle.structure.proofs.Places.{one-more, cells-are, next-fits, row-fits}
 use Rattle.steps.proofs.Parts.{row-zero, row-suc, rows-more}
@@ -75,9 +75,6 @@ module _ (K : Computation) (n e : ℕ) (counts offs starts values : List ℕ) (l
 
 pub drop-whole : (k : ℕ) (q : List ℕ) → take (length q - k) (drop k q) ≡ drop k q
 drop-whole k q = take-all (length q - k) (drop k q) (omega (arith, length-drop k q))
-
-pub put-end : (k : ℕ) (w p : List ℕ) → k ≤ length w → putMid k (length w - k) w p ≡ take k w ++ p
-put-end k w p h = rw (post-is k (length w) w h, drop-length w, append-nil p)
 
 pub each-append : (f : Structure → List Structure) (L M : List Structure) → each f (L ++ M) ≡ each f L ++ each f M
 unfolding each

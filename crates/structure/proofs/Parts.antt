@@ -5,9 +5,10 @@ use Prim.Native.Nat.{ℕ, zero, suc, _+_, _-_, _≤_, _<_}
 use native.Mathlib.Nat.{zero-add, suc-add}
 use native.Mathlib.Numerals.{add-one}
 use native.Mathlib.Omega.{arith}
-use mathlib.Core.List.{List, [], _∷_, _++_}
+use mathlib.Core.List.{List, [], _∷_, _++_, append-nil}
 use lib.ListN.{length, getD, take, drop, set, length-drop}
-use lib.Seq.{take-nil, take-take, take-at, drop-at, drop-drop, getD-take, getD-drop, length-take-le, paste, paste-suc, take-paste, drop-paste}
+use borrow.Rule.Slice.PartMut.{putMid, post-is}
+use lib.Seq.{take-nil, take-take, take-at, drop-at, drop-drop, drop-length, getD-take, getD-drop, length-take-le, paste, paste-suc, take-paste, drop-paste}
 
 pub drop-take : (a b : ℕ) (l : List ℕ) → drop a (take (a + b) l) ≡ take b (drop a l)
 drop-take zero b l = rw zero-add
@@ -26,6 +27,10 @@ module _ (c : ℕ) (w v : List ℕ) (e : take c w ≡ take c v) where
   cell-same a h = sym (getD-take c w a 0 h) ∙ ap (λ (l : List ℕ). getD l a 0) e ∙ getD-take c v a 0 h
 
 -- WRITING
+
+-- What was written into the part from k on.
+pub put-end : (k : ℕ) (w p : List ℕ) → k ≤ length w → putMid k (length w - k) w p ≡ take k w ++ p
+put-end k w p h = rw (post-is k (length w) w h, drop-length w, append-nil p)
 
 -- A turn of a loop that writes the list s at `at`: the value v is element j of s.
 pub paste-more : (d : List ℕ) (at : ℕ) (s : List ℕ) (j v : ℕ) → at + j < length d → j < length s → getD s j 0 ≡ v

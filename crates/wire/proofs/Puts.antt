@@ -9,7 +9,7 @@ use lib.ListN.{length, take, drop, set, length-append, length-drop, length-set, 
 use lib.Seq.{length-take-le, take-all, take-at, take-suc-set, take-append-le, take-take, drop-at, drop-set-lt, drop-append-add, drop-drop, paste}
 use Rattle.wire.specs.Put.{putOf}
 
-front-length : (d s : List ℕ) (at : ℕ) → at ≤ length d → length (take at d ++ s) ≡ at + length s
+pub front-length : (d s : List ℕ) (at : ℕ) → at ≤ length d → length (take at d ++ s) ≡ at + length s
 front-length d s at h = simp length-append (omega (arith, length-take-le at d h))
 
 pub length-put : (d s : List ℕ) (at : ℕ) → at + length s ≤ length d → length (putOf d at s) ≡ length d

@@ -7,7 +7,8 @@ use native.Mathlib.Omega.{arith}
 use native.Mathlib.Nat.{zero-mul}
 use lib.ListN.{length, take}
 use Rattle.layout.specs.Rows.{inTurn, clocksIn}
-use Rattle.layout.proofs.Grown.{none-yet, clock-more, row-fits}
+use Rattle.structure.proofs.Places.{next-fits}
+use Rattle.layout.proofs.Grown.{none-yet, clock-more}
 use Rattle.layout.proofs.starts.station_clocks.Statement.{statement}
 use Rattle.layout.proofs.starts.station_clocks.Tie as tie
 
@@ -33,7 +34,7 @@ add-copy : tie.Need-add-copy Inv-loop μ-loop
 add-copy c = search needs
 
 fits-here : (c : tie.After-copy-arg Inv-loop μ-loop) → c .before .before .before .before .before .before .args .at + c .before .before .before .loop .k * c .before .before .before .before .before .before .args .n + c .before .before .before .before .before .before .args .n ≤ length (c .before .before .before .loop .starts)
-fits-here c = omega (arith, row-fits (c .before .before .before .loop .k) (c .before .before .before .before .before .before .args .m) (c .before .before .before .before .before .before .args .n) (c .before .before .loop-test .taken), c .before .before .before .loop .inv, c .before .before .before .before .before .before .pre)
+fits-here c = omega (arith, next-fits (c .before .before .before .loop .k) (c .before .before .before .before .before .before .args .m) (c .before .before .before .before .before .before .args .n) (c .before .before .loop-test .taken), c .before .before .before .loop .inv, c .before .before .before .before .before .before .pre)
 
 mul-copy : tie.Need-mul-copy Inv-loop μ-loop
 mul-copy c = omega (arith, fits-here c)
