@@ -152,5 +152,5 @@ module _ (log : List ℕ) (q : ℕ) (c : Cut) (ws bs : List ℕ) where
   pub told-refused : (reply : Reply) (k n : ℕ) → reply ≡ refuses k n → holdsOp log q c (length ws) (length bs) ≡ refuses k n → Told log q c ws bs reply ws bs
   told-refused reply k n r e = (r ∙ sym e, ((kept reply ws, kept reply bs), cut-promised reply (r ∙ sym e)))
 
-  pub told-given : (x : ℕ) → holdsOp log q c (length ws) (length bs) ≡ gives (x ∷ []) → Told log q c ws bs (gives (x ∷ [])) ws bs
-  told-given x e = (sym e, ((tt, tt), cut-promised (gives (x ∷ [])) (sym e)))
+  pub told-given : (reply : Reply) (x : ℕ) → reply ≡ gives (x ∷ []) → holdsOp log q c (length ws) (length bs) ≡ gives (x ∷ []) → (ws′ bs′ : List ℕ) → Told log q c ws bs reply ws′ bs′
+  told-given reply x r e ws′ bs′ = (r ∙ sym e, ((rw r tt, rw r tt), cut-promised reply (r ∙ sym e)))

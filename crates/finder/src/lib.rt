@@ -1,6 +1,7 @@
 // The operations Answer and Holds, and all that the program prints.
 use verdict::frames::question_at;
 use verdict::question::put_line;
+use verdict::question::told;
 use verdict::question::true_at;
 ghost use mathlib.Core.Path.{_≡_};
 ghost use mathlib.Core.List.{List, [], _∷_, _++_};
@@ -175,11 +176,8 @@ pub fn holds(
             if cramped(ws.len(), bs.len()) {
                 return holds_refused(model::Fault::Workspace);
             }
-            if holds_loaded(&list, loaded.length, &table, s, question, cut, ws, bs) {
-                model::HoldsAnswer::Yes
-            } else {
-                model::HoldsAnswer::No
-            }
+            let yes = holds_loaded(&list, loaded.length, &table, s, question, cut, ws, bs);
+            told(yes)
         }
     }
 }

@@ -1,10 +1,12 @@
 // One question, worked out and answered.
 ghost use mathlib.Core.Path.{_≡_};
+ghost use mathlib.Core.List.{[], _∷_};
 ghost use Prim.Native.Nat.{_≤_};
 ghost use lib.ListN.{length};
 ghost use Rattle.model.specs.Formula.{Formula};
 ghost use Rattle.model.specs.Computation.{Computation};
-ghost use Rattle.model.specs.Answer.{trueAt, answer, answerLine};
+ghost use Rattle.model.specs.Answer.{trueAt, answer, yesNo, answerLine};
+ghost use Rattle.model.specs.Reply.{gives, holdsReply};
 ghost use Rattle.report.specs.Written.{Written};
 ghost use Rattle.verdict.specs.Questions.{Question};
 
@@ -49,4 +51,15 @@ pub fn true_at(
     let basis = basis::basis_true(q, ws, bs, n, e, counts, offs, starts, values);
     let at = structure::cut_at(cut, 0, n);
     report::belongs_any(ws, bs, basis.count, n, e, counts, offs, &at)
+}
+
+// What Holds says of a cut.
+pub fn told(yes: bool) -> model::HoldsAnswer
+    ensures { λ r. ⌜ holdsReply r ≡ gives (yesNo yes ∷ []) ⌝ }
+{
+    if yes {
+        model::HoldsAnswer::Yes
+    } else {
+        model::HoldsAnswer::No
+    }
 }

@@ -1,6 +1,5 @@
 -- `holds` meets its contract: each refusal and each reply are those of `holdsOp`, and demand 2 follows. Assumes nothing.
 use mathlib.Core.Path.{refl, sym, _∙_}
-use mathlib.Core.Bool.{true, false}
 use native.Mathlib.Omega.{arith}
 use borrow.Author.Needs.{needs}
 use borrow.Author.Tests.{not-true, not-false}
@@ -76,6 +75,9 @@ holds-loaded-requires c κs =
     let room = roomy _ _ (sym (c .before .before .before .before .before .cramped .ensures) ∙ c .before .before .before .before .if3 .left) in
     ((c .before .before .before .before .before .before .before .before .before .before .before .if1 .left, omega (arith, a .short, l .kept), omega (arith, l .kept), cut-size a _ (sym (c .before .before .before .before .before .before .before .consistent .ensures _ (a .holds .stored)) ∙ not-false _ (c .before .before .before .before .before .before .if2 .left)), room .0, room .1), (_, a))
 
+told-requires : tie.Need-told-requires
+told-requires c κs = search needs
+
 returns-4 : tie.Need-returns-4
 returns-4 c = told-refused _ _ _ _ _ _ _ _ refl (holds-refused _ _ _ _ _ _ _ (to-refused _ _ _ _ _ _ (c .before .before .before .before .before .load .ensures) _ (c .before .outcome .given .1)))
 
@@ -90,20 +92,7 @@ returns-5 c =
     let a = to-accepts _ _ _ _ _ _ (c .before .before .before .before .before .before .before .before .before .before .before .before .before .before .before .before .before .before .before .before .before .before .before .before .load .ensures) (c .before .before .before .before .before .before .before .before .before .before .before .before .before .before .before .before .before .before .before .before .enum-told .given .1) in
     let f = question-there (a .reading .questions) (c .before .before .before .before .before .before .before .before .before .before .before .before .before .before .before .before .before .before .before .before .before .before .before .before .before .before .before .before .before .before .before .args .question) (omega (arith, question-count a, c .before .before .before .before .before .before .before .before .before .before .before .before .before .before .before .before .before .if1 .left)) in
     let e = sym (c .before .before .before .before .before .before .before .before .before .before .before .before .before .consistent .ensures _ (a .holds .stored)) ∙ not-false _ (c .before .before .before .before .before .before .before .before .before .before .before .before .if2 .left) in
-    told-given _ _ _ (c .before .before .before .before .before .before .before .before .before .before .before .before .before .before .before .before .before .before .before .before .before .before .before .before .before .before .before .before .before .before .before .args .ws .now) (c .before .before .before .before .before .before .before .before .before .before .before .before .before .before .before .before .before .before .before .before .before .before .before .before .before .before .before .before .before .before .before .args .bs .now) 1 (holds-told _ _ _ _ _ (a .reading) (a .is) (f .0) (f .1) e (sym (c .before .before .before .before .before .before .before .before .before .before .before .cramped .ensures) ∙ c .before .before .before .before .before .before .before .before .before .before .if3 .left) true (sym (c .before .before .before .before .before .holds-loaded .ensures _ a (f .0) (f .1)) ∙ c .if4 .taken))
-
-same-length-3 : tie.Need-same-length-3
-same-length-3 c = search needs
-
-same-length-4 : tie.Need-same-length-4
-same-length-4 c = search needs
-
-returns-6 : tie.Need-returns-6
-returns-6 c =
-    let a = to-accepts _ _ _ _ _ _ (c .before .before .before .before .before .before .before .before .before .before .before .before .before .before .before .before .before .before .before .before .before .before .before .before .load .ensures) (c .before .before .before .before .before .before .before .before .before .before .before .before .before .before .before .before .before .before .before .before .enum-told .given .1) in
-    let f = question-there (a .reading .questions) (c .before .before .before .before .before .before .before .before .before .before .before .before .before .before .before .before .before .before .before .before .before .before .before .before .before .before .before .before .before .before .before .args .question) (omega (arith, question-count a, c .before .before .before .before .before .before .before .before .before .before .before .before .before .before .before .before .before .if1 .left)) in
-    let e = sym (c .before .before .before .before .before .before .before .before .before .before .before .before .before .consistent .ensures _ (a .holds .stored)) ∙ not-false _ (c .before .before .before .before .before .before .before .before .before .before .before .before .if2 .left) in
-    told-given _ _ _ (c .before .before .before .before .before .before .before .before .before .before .before .before .before .before .before .before .before .before .before .before .before .before .before .before .before .before .before .before .before .before .before .args .ws .now) (c .before .before .before .before .before .before .before .before .before .before .before .before .before .before .before .before .before .before .before .before .before .before .before .before .before .before .before .before .before .before .before .args .bs .now) 0 (holds-told _ _ _ _ _ (a .reading) (a .is) (f .0) (f .1) e (sym (c .before .before .before .before .before .before .before .before .before .before .before .cramped .ensures) ∙ c .before .before .before .before .before .before .before .before .before .before .if3 .left) false (sym (c .before .before .before .before .before .holds-loaded .ensures _ a (f .0) (f .1)) ∙ c .if4 .left))
+    told-given _ _ _ (c .before .before .before .before .before .before .before .before .before .before .before .before .before .before .before .before .before .before .before .before .before .before .before .before .before .before .before .before .before .before .before .args .ws .now) (c .before .before .before .before .before .before .before .before .before .before .before .before .before .before .before .before .before .before .before .before .before .before .before .before .before .before .before .before .before .before .before .args .bs .now) _ _ (c .told .ensures) (holds-told _ _ _ _ _ (a .reading) (a .is) (f .0) (f .1) e (sym (c .before .before .before .before .before .before .before .before .before .before .before .cramped .ensures) ∙ c .before .before .before .before .before .before .before .before .before .before .if3 .left) _ (sym (c .before .before .before .before .before .holds-loaded .ensures _ a (f .0) (f .1)))) _ _
 
 pub holds-spec : {M : Type 1} → statement M
 holds-spec =
@@ -126,10 +115,8 @@ holds-spec =
     slice-aggregate-holds-loaded
     slice-aggregate-holds-loaded-2
     holds-loaded-requires
+    told-requires
     returns-4
     same-length
     same-length-2
-    returns-5
-    same-length-3
-    same-length-4
-    returns-6)
+    returns-5)
