@@ -12,7 +12,7 @@ from math import prod
 
 from bench_cases import ALL, ladder
 from corpus import Draw, formula, word
-from listing import Listing, Refused, admit, contained, encode, joined_as, read
+from listing import Listing, Refused, Walk, admit, contained, encode, read
 
 SEED, LISTED = 20261115, 1500
 
@@ -28,7 +28,7 @@ class Structure:
         self.raised, self.least, self.top, self.bars = raised, least, top, bars
 
 
-class Rule:
+class Rule(Walk):
     """The bases of a log's questions, and the rounds of the one worked out last."""
 
     def __init__(self, log):
@@ -69,24 +69,11 @@ class Rule:
         self.rounds += sum(start(c)[1] for c in self.starts)
         return self.kept(lambda c: start(c)[0], left.bars + right.bars)
 
-    def below(self, top):
-        return self.kept(lambda c: c if contained(c, top) else None, [])
+    def below(self, s):
+        return self.kept(lambda c: c if contained(c, s.top) else None, [])
 
-    def basis(self, f, sign):
-        t = f[0]
-        if t == 1:
-            return self.atom(*f[1:], sign)
-        if t == 2:
-            return self.basis(f[1], not sign)
-        if t in (3, 4):
-            left, right = self.basis(f[1], sign), self.basis(f[2], sign)
-            if joined_as(t, sign) == "or":
-                return left + right
-            return [s for x in left for y in right for s in self.pair(x, y)]
-        operand = self.basis(f[1], t == 5)
-        if joined_as(t, sign) == "possibly":
-            return [s for x in operand for s in self.below(x.top)]
-        return self.kept(lambda c: c, [x.top for x in operand])
+    def barred(self, structures):
+        return self.kept(lambda c: c, [s.top for s in structures])
 
     def question(self, f):
         """Least cut, greatest cut and bars of each structure, and the rounds."""

@@ -154,7 +154,25 @@ def read(data):
     return log
 
 
-class Listing:
+class Walk:
+    """The structures of a formula, as true or as false. What a structure is, is said by atom, pair, below and barred."""
+
+    def basis(self, f, sign):
+        t = f[0]
+        if t == 1:
+            return self.atom(*f[1:], sign)
+        if t == 2:
+            return self.basis(f[1], not sign)
+        if t in (3, 4):
+            left, right = self.basis(f[1], sign), self.basis(f[2], sign)
+            if joined_as(t, sign) == "or":
+                return left + right
+            return [s for x in left for y in right for s in self.pair(x, y)]
+        operand = self.basis(f[1], t == 5)
+        return [s for x in operand for s in self.below(x)] if joined_as(t, sign) == "possibly" else self.barred(operand)
+
+
+class Listing(Walk):
     """All consistent cuts of a log, and truth at each."""
 
     def __init__(self, log):
@@ -204,21 +222,14 @@ class Listing:
         both = set(right[0])
         return self.kept([c for c in left[0] if c in both], left[1] + right[1])
 
-    def basis(self, f, sign):
-        t = f[0]
-        if t == 1:
-            return self.kept([c for c in self.cuts if (f[2] <= self.log.value(f[1], c[f[1]]) <= f[3]) == sign], [])
-        if t == 2:
-            return self.basis(f[1], not sign)
-        if t in (3, 4):
-            left, right = self.basis(f[1], sign), self.basis(f[2], sign)
-            if joined_as(t, sign) == "or":
-                return left + right
-            return [s for x in left for y in right for s in self.pair(x, y)]
-        operand = self.basis(f[1], t == 5)
-        if joined_as(t, sign) == "possibly":
-            return [s for x in operand for s in self.kept([c for c in self.cuts if contained(c, x[2])], [])]
-        return self.kept(self.cuts, [x[2] for x in operand])
+    def atom(self, s, lo, hi, sign):
+        return self.kept([c for c in self.cuts if (lo <= self.log.value(s, c[s]) <= hi) == sign], [])
+
+    def below(self, s):
+        return self.kept([c for c in self.cuts if contained(c, s[2])], [])
+
+    def barred(self, structures):
+        return self.kept(self.cuts, [s[2] for s in structures])
 
     def answer(self, f):
         """Start, the maximal cuts in order, rounds."""
