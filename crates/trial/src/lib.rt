@@ -1,9 +1,11 @@
 // What the test programs share: lent slices with a known content, printing, and the logs of an input.
 use model::Refusal;
 ghost use mathlib.Core.Path.{_≡_};
-ghost use Prim.Native.Nat.{_+_, _*_, _≤_};
+ghost use mathlib.Core.Bool.{true, false};
+ghost use Prim.Native.Nat.{ℕ, _+_, _*_, _≤_, _<_};
 ghost use lib.ListN.{length, drop};
 ghost use Rattle.trial.specs.Lent.{lent};
+ghost use Rattle.trial.specs.Logs.{closing};
 
 // What lent slices hold before a call.
 pub const LENT: u8 = 165;
@@ -52,7 +54,9 @@ pub fn word(high: u8, low: u8) -> usize
 }
 
 // Does a line with only a full stop start at i, in the log that starts at `at`?
-fn closes(input: &[u8], at: usize, i: usize) -> bool {
+fn closes(input: &[u8], at: usize, i: usize) -> bool
+    ensures { λ r. ⌜ r ≡ closing (now (input .entry)) at i ⌝ }
+{
     if input.len() <= i {
         return false;
     }
@@ -75,6 +79,7 @@ fn closes(input: &[u8], at: usize, i: usize) -> bool {
 pub fn log_end(input: &[u8], at: usize) -> usize
     requires { ⌜ at ≤ length (now input) ⌝ }
     ensures { λ r. ⌜ (at ≤ r) × (r ≤ length (now (input .entry))) ⌝ }
+    ensures { λ r. ⌜ ((i : ℕ) → at ≤ i → i < r → closing (now (input .entry)) at i ≡ false) × (r < length (now (input .entry)) → closing (now (input .entry)) at r ≡ true) ⌝ }
 {
     let mut i = at;
     while i < input.len() {
