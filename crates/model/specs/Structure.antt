@@ -8,6 +8,10 @@ use Rattle.model.specs.Cut.{Cut, _!_, empty, inside, insideAny, join}
 use Rattle.model.specs.Computation.{Computation, Event, stations}
 
 -- The least cut of the set; for each event, station by station, the least cut of the set that holds it, or none; the bars.
+-- On the bench log, with clocks (1,0) of station 0 and (0,1), (1,2) of station 1, `station 0 in 5..5` is true at (1,0), (1,1), (1,2):
+-- least (1,0); rows (1,0) for station 0 and (1,1), (1,2) for station 1; no bars. Its greatest cut is the join of these, (1,2).
+-- `station 0 in 0..0` is true at (0,0), (0,1): least (0,0); rows none for station 0 and (0,1), none for station 1, as no cut of the
+-- set holds event 1 of station 0 or event 2 of station 1. Its greatest cut is (0,1).
 pub record Structure : Type 0 where
   pub least : Cut
   pub rows : List (List (Option Cut))
