@@ -19,7 +19,7 @@ use Rattle.lattice.proofs.Tests.{clash}
 use Rattle.lattice.proofs.Consistency.{empty-consistent}
 use Rattle.lattice.proofs.Theorem.{tested, untested}
 use Rattle.lattice.proofs.Maximal.{maximal, listed-iff, listed-ascending, true-below, never-iff}
-use Rattle.lattice.proofs.Rounds.{rounds-bound}
+use Rattle.lattice.proofs.Rounds.{all-by-rule, rounds-bound}
 
 said-yes : (b : Bool) → (_≡_ {A = Reply} (gives (yesNo b ∷ [])) (gives (1 ∷ []))) ↔ (b ≡ true)
 said-yes true = (λ h. refl, λ h. refl)
@@ -50,5 +50,6 @@ answered K ok f h = record {
   never = never-iff K ok f;
   first = tested K ok f (empty (stations K)) (empty-consistent K ok);
   counted = refl;
+  by-rule = all-by-rule K ok (asTrue f);
   bounded = rounds-bound K f h;
 }

@@ -13,21 +13,14 @@ use Rattle.model.specs.Cut.{Cut, _⊑_, inside, insideAny, empty}
 use Rattle.model.specs.Computation.{Computation, Consistent, full, stations, eventCount}
 use Rattle.model.specs.Structure.{Structure, raise}
 use Rattle.model.specs.Basis.{Outcome, thenRight, round, onward, after, run, start, intersect}
+use Rattle.model.specs.Rounds.{ByRule}
+use Rattle.model.specs.Rounds.ByRule.{ends, still, goes}
 use Rattle.lattice.proofs.Valid.{Valid}
 use Rattle.lattice.proofs.Tests.{clash, yes-or-no}
 use Rattle.lattice.proofs.Cuts.{refl⊑, trans⊑, inside-⊑, ⊑-inside, total-⊑, total-back, empty-⊑}
 use Rattle.lattice.proofs.Consistency.{same-cut, ⊑-full, empty-consistent}
 use Rattle.lattice.proofs.Structures.{Least, least-iff, Regular}
 use Rattle.lattice.proofs.Bases.{In, Good, IsBasis, build-basis}
-
--- The rule for one start, with no limit: from c the outcome o after n rounds.
-pub data ByRule (S T : Structure) : Cut → Option Cut → ℕ → Type 0 where
-  -- a none ends the start
-  ends : {c : Cut} → round S T c ≡ none → ByRule S T c none 1
-  -- so does a round that changed nothing
-  still : {c : Cut} → round S T c ≡ some c → ByRule S T c (some c) 1
-  -- any other round goes on
-  goes : {c d : Cut} {o : Option Cut} {n : ℕ} → round S T c ≡ some d → (d ≡ c → ⊥) → ByRule S T d o n → ByRule S T c o (suc n)
 
 -- Whatever the structures, a start takes no more rounds than it may.
 pub rounds-le : (S T : Structure) (m : ℕ) (c : Cut) → (run S T m c) .rounds ≤ m

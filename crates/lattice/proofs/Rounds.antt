@@ -1,25 +1,47 @@
--- The bound on the rounds: a pair takes at most (events + 1) rounds from each of events + 1 starts, and a sign has at most 16 pairs.
-use mathlib.Core.Path.{_≡_}
+-- The rounds: every start follows the rule.
+-- Their bound: a pair takes at most (events + 1) rounds from each of events + 1 starts, and a sign has at most 16 pairs.
+use mathlib.Core.Path.{_≡_, sym, subst}
 use Prim.Native.Nat.{ℕ, suc, _+_, _*_, _≤_, _<_, _^_}
 use native.Mathlib.Omega.{arith}
 use native.Mathlib.Nat.{le-trans, mul-le-mul, mul-le-mul-right}
 use mathlib.Core.Bool.{true}
 use mathlib.Core.List.{List}
 use lib.ListN.{length}
-use Rattle.model.specs.Lists.{sum}
+use Rattle.model.specs.Lists.{Member, sum}
 use Rattle.model.specs.Formula.{Formula, signs}
 use Rattle.model.specs.Cut.{Cut, empty}
-use Rattle.model.specs.Computation.{Computation, Event, stations, eventCount}
+use Rattle.model.specs.Computation.{Computation, Event, stations, eventCount, clock}
 use Rattle.model.specs.Rules.{Normal, asTrue}
 use Rattle.model.specs.Rules.Normal.{atom, both, either, possible, impossible}
 use Rattle.model.specs.Size.{width, narrow}
 use Rattle.model.specs.Structure.{Structure}
 use Rattle.model.specs.Basis.{start, basis}
-use Rattle.model.specs.Rounds.{roundsOfPair, roundsOfPairs, rounds}
+use Rattle.model.specs.Rounds.{roundsOfPair, roundsOfPairs, rounds, PairByRule, AllByRule}
+use Rattle.lattice.proofs.Valid.{Valid}
+use Rattle.lattice.proofs.Lists.{some-one}
 use Rattle.lattice.proofs.Sums.{sum-le, sum-sum-le}
-use Rattle.lattice.proofs.Intersection.{rounds-le}
+use Rattle.lattice.proofs.Consistency.{clock-consistent}
+use Rattle.lattice.proofs.Bases.{Good}
+use Rattle.lattice.proofs.Intersection.{rounds-le, start-rule}
+use Rattle.lattice.proofs.Theorem.{basis-sat}
 use Rattle.lattice.proofs.Size.{basis-width, narrow-both, narrow-either, narrow-possible, narrow-impossible}
 use Rattle.lattice.proofs.Weights.{signsOf, weighed, weight-true}
+
+-- THE RULE
+
+module _ (K : Computation) (ok : Valid K) where
+  member-good : (p : Normal) (S : Structure) → Member S (basis K p) → Good K S
+  member-good p S m = some-one (λ T g e. subst (Good K) (sym e) g) (basis-sat K ok p .all-good) m
+
+  pub pair-by-rule : (S T : Structure) → Good K S → Good K T → PairByRule K S T
+  pair-by-rule S T gs gt j k h = start-rule K S T gs gt (clock K j k) (clock-consistent K ok j k h)
+
+  pub all-by-rule : (p : Normal) → AllByRule K p
+  all-by-rule (atom b s lo hi) = tt
+  all-by-rule (both p q) = (all-by-rule p, all-by-rule q, λ S T m n. pair-by-rule S T (member-good p S m) (member-good q T n))
+  all-by-rule (either p q) = (all-by-rule p, all-by-rule q)
+  all-by-rule (possible p) = all-by-rule p
+  all-by-rule (impossible p) = all-by-rule p
 
 -- PAIRS
 

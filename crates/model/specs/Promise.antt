@@ -53,8 +53,11 @@ pub record Answered (K : Computation) (f : Formula) (line : List ℕ) : Type 0 w
   pub never : (cuts ≡ []) ↔ ((c : Cut) → Consistent K c → True K f c → ⊥)
   -- the start is yes exactly when the question is true at the empty cut
   pub first : (start ≡ true) ↔ True K f (empty (stations K))
-  -- the rounds are those of the rule, and have their bound
+  -- the rounds are the sum over all starts of all pairs intersected while the formula is worked out one time as true
   pub counted : rounds ≡ rule.rounds K (asTrue f)
+  -- each of these starts ends by the rule: at a none, or after a round that changed nothing
+  pub by-rule : rule.AllByRule K (asTrue f)
+  -- and they have their bound
   pub bounded : rounds ≤ 16 * signs f * (suc (eventCount K) * suc (eventCount K))
 
 -- DEMAND 2, of the reply to a consistent cut
