@@ -1,8 +1,6 @@
 -- What is asked of an accepted log is answered as promised: demands 2 and 3, of the definitions and of the operations over them.
-use mathlib.Core.Path.{_≡_, refl}
+use mathlib.Core.Path.{_≡_, refl, sym, _∙_}
 use Prim.Native.Nat.{ℕ, _≤_}
-use native.Mathlib.Omega.{arith}
-use mathlib.Core.Bool.{true}
 use mathlib.Core.List.{List, [], _∷_}
 use lib.ListN.{length, take, drop}
 use lib.Seq.{take-at}
@@ -10,46 +8,37 @@ use borrow.Author.Tests.{le-ltb}
 use Rattle.model.specs.Formula.{Formula}
 use Rattle.model.specs.Cut.{Cut}
 use Rattle.model.specs.Computation.{Computation, Consistent, stations}
-use Rattle.model.specs.Rules.{asTrue}
-use Rattle.model.specs.Size.{narrow}
-use Rattle.model.specs.Answer.{trueAt, answer, yesNo, answerLine}
+use Rattle.model.specs.Answer.{Answer, trueAt, answer, yesNo, answerLine}
 use Rattle.model.specs.Reply.{gives}
 use Rattle.model.specs.Promise.{Asked, Answered, Tested}
 use Rattle.model.specs.Operations.{write, cramped, lineEffect, questionEffect, answerEffect, answerOp, cutReply, holdsReplyTo, holdsOp}
 use Rattle.lattice.proofs.Lists.{all-members}
 use Rattle.lattice.proofs.Consistency.{consistent-iff}
-use Rattle.lattice.proofs.Held.{fits-to, fits-signs}
-use Rattle.lattice.proofs.Line.{listed-few, listed-size, listed-byte, answer-rounds, answer-fits}
+use Rattle.lattice.proofs.Held.{fits-to}
+use Rattle.lattice.proofs.Line.{answer-fits}
 use Rattle.lattice.proofs.Answers.{answered, told}
-use Rattle.codec.proofs.Answers.{Shown}
+use Rattle.codec.proofs.Answers.{Shown, answer-same}
 use Rattle.codec.proofs.Readings.{Posed, asked-valid}
+
+-- What a line tells is one answer: its numbers fit their bytes.
+answered-shown : {K : Computation} {f : Formula} {line : List ℕ} (a : Answered K f line) → Shown (stations K) (record { start = a .start; cuts = a .cuts; rounds = a .rounds })
+answered-shown a = record { sized = all-members (a .cuts) (a .sized); counts = all-members (a .cuts) (a .small); few = a .few; short = a .short }
+
+pub answered-tells : {K : Computation} {f : Formula} {line : List ℕ} (a : Answered K f line) (b : Answer) → Shown (stations K) b → line ≡ answerLine b → b ≡ record { start = a .start; cuts = a .cuts; rounds = a .rounds }
+answered-tells {K} a b h e = answer-same (stations K) b _ h (answered-shown a) (sym e ∙ a .encodes)
 
 module _ {log : List ℕ} {q : ℕ} {K : Computation} {f : Formula} (a : Asked log q K f) where
   posed : Posed K f
   posed = asked-valid a
 
-  slender : narrow (asTrue f) ≡ true
-  slender = fits-to f (posed .fitting) .2
-
   -- THE ANSWER
 
   -- Demand 3, of the answer's line.
   pub asked-answered : Answered K f (answerLine (answer K f))
-  asked-answered = answered K (posed .valid) f slender
+  asked-answered = answered K (posed .valid) (posed .few) f (posed .fitting)
 
   pub asked-line-fits : length (answerLine (answer K f)) ≤ 273
-  asked-line-fits = answer-fits K (posed .valid) f slender (posed .high)
-
-  -- Its numbers fit their bytes, so that the line tells the answer.
-  pub asked-shown : Shown (stations K) (answer K f)
-  asked-shown =
-      let few : length ((answer K f) .cuts) ≤ 16 = listed-few K f slender in
-      record {
-        sized = all-members ((answer K f) .cuts) (listed-size K (posed .valid) f);
-        counts = all-members ((answer K f) .cuts) (λ c m j. omega (arith, listed-byte K (posed .valid) f (posed .few) c m j));
-        few = omega arith;
-        short = answer-rounds K f slender (fits-signs f (posed .fitting)) (posed .few);
-      }
+  asked-line-fits = answer-fits K (posed .valid) f (fits-to f (posed .fitting) .2) (posed .high)
 
   -- Demand 2, of the test at a cut.
   pub asked-tested : (c : Cut) → Consistent K c → Tested K f c (gives (yesNo (trueAt K f c) ∷ []))

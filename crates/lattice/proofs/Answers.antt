@@ -1,15 +1,15 @@
 -- All that is promised of the reply to a cut and of the line of a question: demands 2 and 3.
 use mathlib.Core.Path.{_≡_, refl}
 use mathlib.Core.Logic.{_↔_}
-use Prim.Native.Nat.{ℕ}
+use Prim.Native.Nat.{ℕ, _≤_}
 use native.Mathlib.Omega.{arith}
 use mathlib.Core.Bool.{Bool, true, false}
 use mathlib.Core.List.{[], _∷_}
 use Rattle.model.specs.Formula.{Formula}
 use Rattle.model.specs.Cut.{Cut, empty}
-use Rattle.model.specs.Computation.{Computation, Consistent, stations}
+use Rattle.model.specs.Computation.{Computation, Consistent, stations, eventCount}
 use Rattle.model.specs.Rules.{asTrue}
-use Rattle.model.specs.Size.{narrow}
+use Rattle.model.specs.Size.{narrow, fits}
 use Rattle.model.specs.Rounds.{rounds}
 use Rattle.model.specs.Answer.{trueAt, answer, yesNo, answerLine}
 use Rattle.model.specs.Reply.{Reply, gives}
@@ -19,7 +19,9 @@ use Rattle.lattice.proofs.Tests.{clash}
 use Rattle.lattice.proofs.Consistency.{empty-consistent}
 use Rattle.lattice.proofs.Theorem.{tested, untested}
 use Rattle.lattice.proofs.Maximal.{maximal, listed-iff, listed-ascending, true-below, never-iff}
-use Rattle.lattice.proofs.Rounds.{all-by-rule, rounds-bound}
+use Rattle.lattice.proofs.Rounds.{all-by-rule, rounds-bound, rounds-fit}
+use Rattle.lattice.proofs.Held.{fits-to, fits-signs}
+use Rattle.lattice.proofs.Line.{listed-few, listed-size, listed-byte}
 
 said-yes : (b : Bool) → (_≡_ {A = Reply} (gives (yesNo b ∷ [])) (gives (1 ∷ []))) ↔ (b ≡ true)
 said-yes true = (λ h. refl, λ h. refl)
@@ -37,13 +39,17 @@ told K ok f c p = record {
 }
 
 -- Demand 3.
-pub answered : (K : Computation) → Valid K → (f : Formula) → narrow (asTrue f) ≡ true → Answered K f (answerLine (answer K f))
+pub answered : (K : Computation) → Valid K → eventCount K ≤ 127 → (f : Formula) → fits f ≡ true → Answered K f (answerLine (answer K f))
 unfolding answer
-answered K ok f h = record {
+answered K ok e f h = record {
   start = trueAt K f (empty (stations K));
   cuts = maximal K f;
   rounds = rounds K (asTrue f);
   encodes = refl;
+  few = omega (arith, listed-few K f slender);
+  sized = listed-size K ok f;
+  small = λ c m j. omega (arith, listed-byte K ok f e c m j);
+  short = rounds-fit K f slender (fits-signs f h) e;
   listed = listed-iff K ok f;
   ordered = listed-ascending K ok f;
   covered = true-below K ok f;
@@ -51,5 +57,8 @@ answered K ok f h = record {
   first = tested K ok f (empty (stations K)) (empty-consistent K ok);
   counted = refl;
   by-rule = all-by-rule K ok (asTrue f);
-  bounded = rounds-bound K f h;
+  bounded = rounds-bound K f slender;
 }
+  where
+    slender : narrow (asTrue f) ≡ true
+    slender = fits-to f h .2

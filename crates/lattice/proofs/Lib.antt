@@ -24,5 +24,5 @@ pub mod Weights
 pub mod Signed
 pub mod Rounds
 pub mod Held
-pub mod Answers
 pub mod Line
+pub mod Answers

@@ -1,6 +1,6 @@
 -- The numbers of an answer fit their bytes, and its line fits 273: at most 16 cuts of at most 8 counts of at most 127, and the rounds in four bytes.
 use mathlib.Core.Path.{_≡_, refl}
-use Prim.Native.Nat.{ℕ, suc, _+_, _*_, _≤_, _<_, _^_}
+use Prim.Native.Nat.{ℕ, suc, _+_, _*_, _≤_}
 use native.Mathlib.Omega.{arith}
 use native.Mathlib.Nat.{le-trans, mul-le-mul}
 use mathlib.Core.Bool.{Bool, true, false, cond}
@@ -9,7 +9,7 @@ use lib.ListN.{length, length-append, length-map}
 use Rattle.model.specs.Lists.{Member}
 use Rattle.model.specs.Lists.Some.{here, there}
 use Rattle.model.specs.Bytes.{hex, checkByte, line}
-use Rattle.model.specs.Formula.{Formula, signs}
+use Rattle.model.specs.Formula.{Formula}
 use Rattle.model.specs.Cut.{Cut, _!_, inside, insideAny}
 use Rattle.model.specs.Computation.{Computation, Consistent, stations, count, eventCount}
 use Rattle.model.specs.Rules.{asTrue}
@@ -21,7 +21,6 @@ use Rattle.lattice.proofs.Valid.{Valid}
 use Rattle.lattice.proofs.Consistency.{count-le}
 use Rattle.lattice.proofs.Maximal.{greatests, listed-true}
 use Rattle.lattice.proofs.Size.{basis-width, narrow-to}
-use Rattle.lattice.proofs.Rounds.{rounds-fit}
 
 -- HOW MANY CUTS
 
@@ -85,13 +84,6 @@ module _ (K : Computation) (ok : Valid K) (f : Formula) where
   -- At most 127.
   pub listed-byte : eventCount K ≤ 127 → (c : Cut) → Member c ((answer K f) .cuts) → (j : ℕ) → c ! j ≤ 127
   listed-byte e c m j = omega (arith, listed-within c m j, count-le K j)
-
--- ITS ROUNDS
-
--- They fit four bytes.
-pub answer-rounds : (K : Computation) (f : Formula) → narrow (asTrue f) ≡ true → signs f ≤ 31 → eventCount K ≤ 127 → (answer K f) .rounds < 2 ^ 32
-unfolding answer
-answer-rounds K f = rounds-fit K f
 
 -- ITS LINE
 

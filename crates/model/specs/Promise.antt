@@ -1,15 +1,15 @@
 -- What is promised of answers: demands 2 and 3, by truth at cuts.
 use mathlib.Core.Path.{_≡_}
 use mathlib.Core.Logic.{_↔_}
-use Prim.Native.Nat.{ℕ, suc, _*_, _≤_}
+use Prim.Native.Nat.{ℕ, suc, _*_, _^_, _≤_, _<_}
 use mathlib.Core.Bool.{Bool, true}
 use mathlib.Core.List.{List, [], _∷_}
 use mathlib.Core.Option.{some}
-use lib.ListN.{getElem?}
+use lib.ListN.{length, getElem?}
 use Rattle.model.specs.Limits.{limits}
 use Rattle.model.specs.Lists.{Some, Member}
 use Rattle.model.specs.Formula.{Formula, signs}
-use Rattle.model.specs.Cut.{Cut, _⊑_, empty}
+use Rattle.model.specs.Cut.{Cut, _!_, _⊑_, empty}
 use Rattle.model.specs.Computation.{Computation, Consistent, stations, eventCount}
 use Rattle.model.specs.Truth.{True}
 use Rattle.model.specs.Rules.{asTrue}
@@ -43,6 +43,11 @@ pub record Answered (K : Computation) (f : Formula) (line : List ℕ) : Type 0 w
   pub cuts : List Cut
   pub rounds : ℕ
   pub encodes : line ≡ answerLine (record { start = start; cuts = cuts; rounds = rounds })
+  -- the line tells them: each cut has a count for each station, and number of cuts, counts and rounds fit their bytes
+  pub few : length cuts < 256
+  pub sized : (c : Cut) → Member c cuts → length c ≡ stations K
+  pub small : (c : Cut) → Member c cuts → (j : ℕ) → c ! j < 256
+  pub short : rounds < 2 ^ 32
   -- a cut is listed exactly when it is consistent, makes the question true and is contained in no other that does
   pub listed : (c : Cut) → Member c cuts ↔ Maximal K f c
   -- in ascending order, and so each once
