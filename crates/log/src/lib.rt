@@ -15,6 +15,7 @@ ghost use lib.Dec.{leb};
 ghost use lib.ListN.{length};
 ghost use Rattle.model.specs.Reply.{readReply, writeReply};
 ghost use Rattle.model.specs.Operations.{readOp, writeOp};
+ghost use Rattle.model.specs.Promise.{Rewritten, Reread};
 ghost use Rattle.wire.specs.Put.{putOf};
 ghost use Rattle.frame.specs.State.{Bounded, Admits};
 ghost use Rattle.log.specs.Loaded.{first, refusedAt, Loads};
@@ -124,6 +125,7 @@ fn put_list(list: &[u8], out: &mut [u8]) -> bool
 pub fn read(log: &[u8], out: &mut [u8]) -> model::ReadAnswer
     ensures { λ r. ⌜ readReply r ≡ (readOp (now (log .entry)) (now (out .entry))) .reply ⌝ }
     ensures { λ r. ⌜ now (out .exit) ≡ (readOp (now (log .entry)) (now (out .entry))) .output ⌝ }
+    ensures { λ r. ⌜ Rewritten (now (log .entry)) (readReply r) (now (out .exit)) ⌝ }
 {
     let mut list = [0u8; model::Log::LIST];
     let mut table = [0u8; 10240];
@@ -154,6 +156,7 @@ pub fn read(log: &[u8], out: &mut [u8]) -> model::ReadAnswer
 pub fn write(list: &[u8], out: &mut [u8]) -> model::WriteAnswer
     ensures { λ r. ⌜ writeReply r ≡ (writeOp (now (list .entry)) (now (out .entry))) .reply ⌝ }
     ensures { λ r. ⌜ now (out .exit) ≡ (writeOp (now (list .entry)) (now (out .entry))) .output ⌝ }
+    ensures { λ r. ⌜ Reread (now (list .entry)) (writeReply r) (now (out .exit)) ⌝ }
 {
     if model::Log::LIST < list.len() {
         return model::WriteAnswer::Refused(model::Refusal {

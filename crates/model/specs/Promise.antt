@@ -1,11 +1,11 @@
--- What is promised of answers: demands 2 and 3, by truth at cuts.
+-- What is promised of answers and of Read and Write: demands 2 and 3, by truth at cuts.
 use mathlib.Core.Path.{_≡_}
 use mathlib.Core.Logic.{_↔_}
 use Prim.Native.Nat.{ℕ, suc, _*_, _^_, _≤_, _<_}
 use mathlib.Core.Bool.{Bool, true}
 use mathlib.Core.List.{List, [], _∷_}
 use mathlib.Core.Option.{some}
-use lib.ListN.{length, getElem?}
+use lib.ListN.{length, take, getElem?}
 use Rattle.model.specs.Limits.{limits}
 use Rattle.model.specs.Lists.{Some, Member}
 use Rattle.model.specs.Formula.{Formula, signs}
@@ -17,6 +17,7 @@ use Rattle.model.specs.Rounds as rule
 use Rattle.model.specs.Answer.{precedes, answerLine}
 use Rattle.model.specs.Reading.{accepted, readLog}
 use Rattle.model.specs.Reply.{Reply, gives}
+use Rattle.model.specs.Operations.{write, readOp, writeOp}
 
 -- The log is accepted, K is its computation, and f its question number q.
 pub record Asked (log : List ℕ) (q : ℕ) (K : Computation) (f : Formula) : Type 0 where
@@ -69,3 +70,21 @@ pub record Answered (K : Computation) (f : Formula) (line : List ℕ) : Type 0 w
 pub record Tested (K : Computation) (f : Formula) (c : Cut) (reply : Reply) : Type 0 where
   pub when-true : (reply ≡ gives (1 ∷ [])) ↔ True K f c
   pub when-false : (reply ≡ gives (0 ∷ [])) ↔ (True K f c → ⊥)
+
+-- DEMAND 2, of what Read hands back (counts of stations, events and questions, the list's length) and its output: writing the frame list gives the log again
+abbrev pub Rewritten : List ℕ → Reply → List ℕ → Type 0
+Rewritten log reply output =
+    (n e q m : ℕ)
+    → reply ≡ gives (n ∷ e ∷ q ∷ m ∷ [])
+    → (buffer : List ℕ)
+    → limits .bytes ≤ length buffer
+    → writeOp (take m output) buffer ≡ write (length log ∷ []) log buffer
+
+-- DEMAND 2, of what Write hands back (the log's length) and its output: reading the log gives the frame list again
+abbrev pub Reread : List ℕ → Reply → List ℕ → Type 0
+Reread list reply output =
+    (m : ℕ)
+    → reply ≡ gives (m ∷ [])
+    → (buffer : List ℕ)
+    → limits .list ≤ length buffer
+    → (n e q : ℕ) × (readOp (take m output) buffer ≡ write (n ∷ e ∷ q ∷ length list ∷ []) list buffer)

@@ -32,7 +32,7 @@ same-length c = search needs
 returns : tie.Need-returns
 returns c =
     let h = c .before .before .before .before .before .before .read in
-    (c .packed-counts .ensures ∙ ap packed (ap readReply (sym (c .before .before .l .given .1)) ∙ h .ensures .0), h .ensures .1)
+    (c .packed-counts .ensures ∙ ap packed (ap readReply (sym (c .before .before .l .given .1)) ∙ h .ensures .0), h .ensures .1 .0)
 
 same-length-2 : tie.Need-same-length-2
 same-length-2 c = search needs
@@ -40,7 +40,7 @@ same-length-2 c = search needs
 returns-2 : tie.Need-returns-2
 returns-2 c =
     let h = c .before .before .before .before .before .before .read in
-    (c .packed-refusal .ensures ∙ ap packed (ap readReply (sym (c .before .before .r .given .1)) ∙ h .ensures .0), h .ensures .1)
+    (c .packed-refusal .ensures ∙ ap packed (ap readReply (sym (c .before .before .r .given .1)) ∙ h .ensures .0), h .ensures .1 .0)
 
 pub moment-read-spec : {M : Type 1} → statement M
 moment-read-spec =

@@ -27,7 +27,7 @@ same-length c = search needs
 returns : tie.Need-returns
 returns c =
     let h = c .before .before .before .before .before .write in
-    (one-packed _ _ (ap writeReply (sym (c .before .n .given .1)) ∙ h .ensures .0), h .ensures .1)
+    (one-packed _ _ (ap writeReply (sym (c .before .n .given .1)) ∙ h .ensures .0), h .ensures .1 .0)
 
 same-length-2 : tie.Need-same-length-2
 same-length-2 c = search needs
@@ -35,7 +35,7 @@ same-length-2 c = search needs
 returns-2 : tie.Need-returns-2
 returns-2 c =
     let h = c .before .before .before .before .before .before .write in
-    (c .packed-refusal .ensures ∙ ap packed (ap writeReply (sym (c .before .before .r .given .1)) ∙ h .ensures .0), h .ensures .1)
+    (c .packed-refusal .ensures ∙ ap packed (ap writeReply (sym (c .before .before .r .given .1)) ∙ h .ensures .0), h .ensures .1 .0)
 
 pub moment-write-spec : {M : Type 1} → statement M
 moment-write-spec =
