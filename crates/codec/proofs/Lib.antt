@@ -15,3 +15,4 @@ pub mod Sizes
 pub mod RoundTrip
 pub mod Operations
 pub mod Demands
+pub mod Printed

@@ -69,8 +69,8 @@ abbrev pub yesNo : Bool → ℕ
 yesNo true = 0x01
 yesNo false = 0x00
 
--- The cuts one after another.
-unfoldable pub inRow : List Cut → List ℕ
+-- Lists one after another.
+unfoldable pub inRow : List (List ℕ) → List ℕ
 inRow [] = []
 inRow (c ∷ l) = c ++ inRow l
 

@@ -1,4 +1,4 @@
--- What is promised of answers and of Read and Write: demands 2 and 3, by truth at cuts.
+-- What is promised of the operations and of the program: demands 2 and 3, by truth at cuts.
 use mathlib.Core.Path.{_≡_}
 use mathlib.Core.Logic.{_↔_}
 use Prim.Native.Nat.{ℕ, suc, _*_, _^_, _≤_, _<_}
@@ -14,10 +14,10 @@ use Rattle.model.specs.Computation.{Computation, Consistent, stations, e
 use Rattle.model.specs.Truth.{True}
 use Rattle.model.specs.Rules.{asTrue}
 use Rattle.model.specs.Rounds as rule
-use Rattle.model.specs.Answer.{precedes, answerLine}
-use Rattle.model.specs.Reading.{accepted, readLog}
+use Rattle.model.specs.Answer.{precedes, inRow, answerLine}
+use Rattle.model.specs.Reading.{Reading, accepted, readLog}
 use Rattle.model.specs.Reply.{Reply, gives}
-use Rattle.model.specs.Operations.{write, readOp, writeOp}
+use Rattle.model.specs.Operations.{write, readOp, answerOp, writeOp, printed}
 
 -- The log is accepted, K is its computation, and f its question number q.
 pub record Asked (log : List ℕ) (q : ℕ) (K : Computation) (f : Formula) : Type 0 where
@@ -88,3 +88,16 @@ Reread list reply output =
     → (buffer : List ℕ)
     → limits .list ≤ length buffer
     → (n e q : ℕ) × (readOp (take m output) buffer ≡ write (n ∷ e ∷ q ∷ length list ∷ []) list buffer)
+
+-- THE PROGRAM, for an accepted log of which r was read
+pub record Prints (log : List ℕ) (r : Reading) : Type 0 where
+  -- lines one after another, one a question
+  pub lines : List (List ℕ)
+  pub whole : printed log ≡ inRow lines
+  pub as-many : length lines ≡ length (r .questions)
+  -- demand 3 holds of each
+  pub answers : (q : ℕ) (f : Formula) (line : List ℕ) → getElem? (r .questions) q ≡ some f → getElem? lines q ≡ some line → Answered (r .computation) f line
+  -- each is the line that Answer writes, lent the sizes that it asks for
+  pub unchanged : (q : ℕ) (line : List ℕ) → getElem? lines q ≡ some line
+      → (workspace barspace : ℕ) (output : List ℕ) → 65536 ≤ workspace → 8192 ≤ barspace → 273 ≤ length output
+      → answerOp log q workspace barspace output ≡ write (length line ∷ []) line output
