@@ -12,7 +12,7 @@ use Rattle.model.specs.Frames.{word, words, listOf}
 use Rattle.model.specs.Formula.{Formula, prefix, ahead, one, two, sign, token, spelt, formulasIn, single, formulaOf, sound, weigh}
 use Rattle.model.specs.Formula.Formula.{inRange, not, and, or, possibly, always}
 use Rattle.model.specs.Cut.{Cut, inside, insideAny, join}
-use Rattle.model.specs.Computation.{clock, value, known, isConsistent, counted, clockOk}
+use Rattle.model.specs.Computation.{Computation, clock, value, known, isConsistent, counted, clockOk}
 use Rattle.model.specs.Rules.{asTrue, asFalse, passes}
 use Rattle.model.specs.Size.{width, bars, slim, narrow, fits}
 use Rattle.model.specs.Structure.{row, joined, raiseBy, raise, reaches, inSet, belongs, belongsAny, joinRow, joinRows, greatest, keep, buildOn, build}
@@ -21,6 +21,7 @@ use Rattle.model.specs.Rounds.{roundsOfPair, roundsOfPairs, rounds}
 use Rattle.model.specs.Answer.{notInside, add, tops, precedes, insert, sort, trueAt, answer, inRow, fourBytes, answerLine, refusalLine}
 use Rattle.model.specs.Reading.{begun, check, headerForm, opened, admitHeader, eventForm, extended, unasked, admitEvent, asked, admitQuestion, admit, finish, proceed, readItems, readLog}
 use Rattle.model.specs.Reply.{Reply, gives, refuses}
+use Rattle.model.specs.Promise.{Asked}
 use Rattle.model.specs.Operations.{readEffect, readOp, cramped, cutReply, holdsReplyTo, holdsOp, answerLines, printedOf, printed}
 
 -- The bytes of a text.
@@ -38,6 +39,32 @@ Q = and (inRange 0 5 5) (inRange 1 1 1)
 -- The bench log with the question f.
 pub asking : Formula → List ℕ
 asking f = bench ++ line (0x30 ∷ prefix f)
+
+-- Its computation.
+pub benched : Computation
+benched = record {
+  initial = 0 ∷ 0 ∷ [];
+  events =
+      (record { value = 5; clock = 1 ∷ 0 ∷ [] } ∷ [])
+      ∷ (record { value = 1; clock = 0 ∷ 1 ∷ [] } ∷ record { value = 2; clock = 1 ∷ 2 ∷ [] } ∷ [])
+      ∷ [];
+}
+
+-- What is promised of accepted logs and their questions is promised of this one.
+pub bench-asked : Asked (asking Q) 0 benched Q
+unfolding ascii bench Q asking sum between every push linesOf digit byte bytes carried items hexDigit hex checkByte line word words prefix ahead one two sign token spelt formulasIn single formulaOf sound weigh inside clock known counted clockOk asTrue width bars slim narrow fits begun check headerForm opened admitHeader eventForm extended unasked admitEvent asked admitQuestion admit finish proceed readItems readLog benched
+bench-asked = record {
+  frames =
+      (0x10 ∷ 2 ∷ 0 ∷ 0 ∷ 0 ∷ 0 ∷ [])
+      ∷ (0x20 ∷ 0 ∷ 0 ∷ 5 ∷ 1 ∷ 0 ∷ [])
+      ∷ (0x20 ∷ 1 ∷ 0 ∷ 1 ∷ 0 ∷ 1 ∷ [])
+      ∷ (0x20 ∷ 1 ∷ 0 ∷ 2 ∷ 1 ∷ 2 ∷ [])
+      ∷ (0x30 ∷ prefix Q)
+      ∷ [];
+  questions = Q ∷ [];
+  reads = refl;
+  is = refl;
+}
 
 -- The reply of Holds at a cut of the bench log with Q.
 pub holdsAt : Cut → Reply
