@@ -1,4 +1,5 @@
 //! Instructions of the whole program under callgrind, and its memory under massif.
+use crate::codes::{cells, head, names, PEERS};
 use crate::timed::{rounds, wide_log};
 use compare::log::line;
 use std::fmt::Write;
@@ -29,15 +30,14 @@ fn instructions(program: &[&str], log: &str) -> (String, u64) {
     (printed, line.rsplit(' ').next().unwrap().parse().unwrap())
 }
 
-/// Instructions of the three programs on a log with 16 questions, and what the proved one takes a log byte and a round.
+/// Instructions of the programs on a log with 16 questions, and what the proved one takes a log byte and a round.
 pub struct Program {
     stations: usize,
     events: usize,
     bytes: usize,
     rounds: u64,
     pub proved: u64,
-    pub independent: u64,
-    pub plain: u64,
+    pub peers: Vec<u64>,
     per_byte: f64,
     per_round: f64,
 }
@@ -47,10 +47,13 @@ fn program(stations: usize, events: usize) -> Program {
     let name = format!("{stations}x{events}");
     let (asked, unasked, empty) = (file(&name, &data), file(&(name + "-bare"), &bare), file("empty", b""));
     let bench = std::env::current_exe().unwrap();
-    let other = |code: &str| instructions(&[bench.to_str().unwrap(), "print", code], &asked);
     let (printed, proved) = instructions(&[PROGRAM], &asked);
-    let ((independently, independent), (plainly, plain)) = (other("independent"), other("plain"));
-    assert!(printed == independently && printed == plainly, "the three programs' output");
+    let peer = |name: &str| {
+        let (line, count) = instructions(&[bench.to_str().unwrap(), "print", name], &asked);
+        assert!(line == printed, "what {name} prints");
+        count
+    };
+    let peers = PEERS.iter().map(|p| peer(p.name)).collect();
     let (reading, beginning) = (instructions(&[PROGRAM], &unasked).1, instructions(&[PROGRAM], &empty).1);
     let rounds = printed.split_inclusive('\n').map(|l| rounds(l.as_bytes())).sum();
     Program {
@@ -59,8 +62,7 @@ fn program(stations: usize, events: usize) -> Program {
         bytes: data.len(),
         rounds,
         proved,
-        independent,
-        plain,
+        peers,
         per_byte: (reading - beginning) as f64 / bare.len() as f64,
         per_round: (proved - reading) as f64 / rounds as f64,
     }
@@ -73,9 +75,11 @@ pub fn programs() -> Vec<Program> {
 
 pub fn section(programs: &[Program]) -> String {
     let mut page = String::from(include_str!("counted.md"));
+    page += &head(format!("| stations | events | log bytes | rounds | proved | {} | proved, a log byte | proved, a round |", names()));
     for p in programs {
-        let Program { stations, events, bytes, rounds, proved, independent, plain, per_byte, per_round } = p;
-        writeln!(page, "| {stations} | {events} | {bytes} | {rounds} | {proved} | {independent} | {plain} | {per_byte:.0} | {per_round:.0} |").unwrap();
+        let Program { stations, events, bytes, rounds, proved, peers, per_byte, per_round } = p;
+        let peers = cells(|i| peers[i].to_string());
+        writeln!(page, "| {stations} | {events} | {bytes} | {rounds} | {proved} | {peers} | {per_byte:.0} | {per_round:.0} |").unwrap();
     }
     page
 }

@@ -1,48 +1,50 @@
-//! Measures the proved code beside the independent Rust code, plain Rust code and a plain listing of every cut, and writes
-//! PERFORMANCE.md with a plot.
+//! Measures the proved code beside other codes and a plain listing of every cut, and writes PERFORMANCE.md with a plot.
 //!
 //! Usage: bench [FOLDER]      from the repository's root, after `rt check moments` and `rt staticlib exports`; FOLDER: docs
-//!        bench print CODE    answers an accepted log from standard input by the `independent` or the `plain` code
+//!        bench print CODE    answers an accepted log from standard input by another code: `independent` or `plain`
+mod codes;
 mod counted;
 mod plain;
 mod plot;
 mod spin;
 mod timed;
 
-use compare::log::Log;
-use compare::operations;
+use codes::{Peer, PEERS};
+use compare::log::QUESTIONS;
+use compare::operations::LINE;
 use counted::{Memory, Program};
 use std::io::{stdin, stdout, Read, Write};
 use timed::Row;
 
-fn print(code: &str) {
-    let mut data = Vec::new();
+fn print(peer: &Peer) {
+    let (mut data, mut out) = (Vec::new(), [0; QUESTIONS * LINE]);
     stdin().read_to_end(&mut data).unwrap();
-    let log = Log::read(&data).unwrap();
-    let answer = if code == "plain" { plain::answer_question } else { operations::answer_question };
-    let lines: Vec<u8> = log.questions.iter().flat_map(|q| answer(&log, q)).collect();
-    stdout().write_all(&lines).unwrap();
+    let n = (peer.printed)(&data, &mut out);
+    stdout().write_all(&out[..n]).unwrap();
+}
+
+/// The page's head, with a line for each peer.
+fn opening() -> String {
+    let peers: Vec<String> = PEERS.iter().map(|p| format!("- *{}*: {}.", p.name, p.about)).collect();
+    include_str!("head.md").replace("PEERS", &peers.join("\n"))
 }
 
 /// The figures for the largest log, which is the last of each table.
 fn short(rows: &[Row], programs: &[Program], memory: &[Memory]) -> String {
     let (row, program) = (rows.last().unwrap(), programs.last().unwrap());
-    let [rounds, proved, _] = timed::growth(rows, row.stations);
+    let (rounds, proved) = (timed::growth_of_rounds(rows, row.stations), timed::growth_of_time(rows, row.stations, 0));
     let stack = memory.iter().map(|m| m.stack).max().unwrap();
     let heap = memory.iter().map(|m| m.heap).max().unwrap();
-    let million = |n: u64| n as f64 / 1e6;
+    let million = |n: u64| format!("{:.1}", n as f64 / 1e6);
+    let peers = |of: &dyn Fn(usize, &Peer) -> String| PEERS.iter().enumerate().map(|(i, p)| of(i, p)).collect::<String>();
     format!(
-        "## In short\n\n8 stations, 127 events, 16 questions of width 16:\n\n| figure | asked | measured |\n|---|---|---|\n\
-        | time of Answer, proved / independent | at most 1 | {:.2} |\n\
-        | time of Answer, proved / plain | at most 0.5 | {:.2} |\n\
-        | instructions of the whole program | at most 50 million | {:.1} million; independent {:.1}, plain {:.1} |\n\
+        "## In short\n\n8 stations, 127 events, 16 questions of width 16:\n\n| figure | asked | measured |\n|---|---|---|\n{}\
+        | instructions of the whole program | at most 50 million | {} million{} |\n\
         | growth in events, exponent of time | at most that of rounds, {rounds:.2} | {proved:.2} |\n\
         | heap | none | {heap} bytes |\n| stack | under 262144 bytes | {stack} bytes |\n",
-        row.to_independent,
-        row.to_plain,
+        peers(&|i, p| format!("| time of Answer, proved / {} | at most {} | {:.2} |\n", p.name, p.most, row.ratios[i])),
         million(program.proved),
-        million(program.independent),
-        million(program.plain),
+        peers(&|i, p| format!("; {} {}", p.name, million(program.peers[i]))),
     )
 }
 
@@ -50,12 +52,12 @@ fn main() {
     let args: Vec<String> = std::env::args().skip(1).collect();
     if let [command, code] = &args[..] {
         assert_eq!(command, "print");
-        return print(code);
+        return print(PEERS.iter().find(|p| p.name == code).expect("a code"));
     }
     let folder = args.first().map_or("docs", String::as_str);
     let (rows, programs, memory) = (timed::grid(), counted::programs(), counted::memory());
     let page = [
-        include_str!("head.md").to_string(),
+        opening(),
         short(&rows, &programs, &memory),
         timed::section(&rows),
         counted::section(&programs),

@@ -86,7 +86,7 @@ impl Plain<'_> {
     }
 }
 
-pub fn answer_question(log: &Log, f: &[Token]) -> Vec<u8> {
+fn answer_question(log: &Log, f: &[Token]) -> Vec<u8> {
     let (mut p, empty) = (Plain { log, rounds: 0 }, [0; 8]);
     let basis = p.basis(&mut Tokens(f), true);
     let start = basis.iter().any(|s| s.raise(&empty) == Some(empty) && s.bars.is_empty());
@@ -97,9 +97,13 @@ pub fn answer_question(log: &Log, f: &[Token]) -> Vec<u8> {
     answer_line(start, &maximal, log.stations(), p.rounds)
 }
 
-pub fn answer(data: &[u8], q: usize, out: &mut [u8]) -> Option<usize> {
-    let log = Log::read(data).ok()?;
-    let line = answer_question(&log, log.questions.get(q)?);
-    out[..line.len()].copy_from_slice(&line);
-    Some(line.len())
+/// The line of a question of an accepted log.
+pub fn answer(data: &[u8], q: usize) -> Vec<u8> {
+    let log = Log::read(data).unwrap();
+    answer_question(&log, &log.questions[q])
+}
+
+pub fn printed(data: &[u8]) -> Vec<u8> {
+    let log = Log::read(data).unwrap();
+    log.questions.iter().flat_map(|q| answer_question(&log, q)).collect()
 }

@@ -1,4 +1,5 @@
 //! The times as a plot: both axes logarithmic, a line for each code at 8 stations, a bar for its quartiles.
+use crate::codes::PEERS;
 use crate::timed::{Row, Spread};
 use std::fmt::Write;
 
@@ -16,7 +17,7 @@ fn y(micros: f64) -> f64 {
     BOTTOM - micros.log10() / DECADES as f64 * (BOTTOM - TOP)
 }
 
-fn axes(s: &mut String, rows: &[Row]) {
+fn axes(s: &mut String, rows: &[&Row]) {
     for decade in 0..=DECADES {
         let at = y(10f64.powi(decade));
         writeln!(s, "<line x1=\"{LEFT}\" x2=\"{RIGHT}\" y1=\"{at}\" y2=\"{at}\" stroke=\"#ddd\"/>").unwrap();
@@ -39,15 +40,17 @@ fn curve(s: &mut String, place: usize, name: &str, colour: &str, points: &[(usiz
 }
 
 pub fn svg(rows: &[Row]) -> String {
-    let rows: Vec<Row> = rows.iter().filter(|r| r.stations == 8).copied().collect();
-    let of = |time: fn(&Row) -> Option<Spread>| rows.iter().filter_map(|r| Some((r.events, time(r)?))).collect::<Vec<_>>();
+    let rows: Vec<&Row> = rows.iter().filter(|r| r.stations == 8).collect();
+    let of = |code: usize| rows.iter().map(|r| (r.events, r.times[code])).collect::<Vec<_>>();
+    let listing: Vec<_> = rows.iter().filter_map(|r| Some((r.events, r.listing?))).collect();
     let mut s = String::from("<svg xmlns=\"http://www.w3.org/2000/svg\" viewBox=\"0 0 620 420\" font-family=\"sans-serif\" font-size=\"12\">\n");
     s += "<rect width=\"620\" height=\"420\" fill=\"white\"/>\n";
     s += "<text x=\"20\" y=\"24\" font-size=\"15\">One Answer at 8 stations, width 16: microseconds by events</text>\n";
     axes(&mut s, &rows);
-    curve(&mut s, 0, "listing", "#888", &of(|r| r.listing));
-    curve(&mut s, 1, "plain", "#c60", &of(|r| Some(r.plain)));
-    curve(&mut s, 2, "independent", "#06c", &of(|r| Some(r.independent)));
-    curve(&mut s, 3, "proved", "#0a6", &of(|r| Some(r.proved)));
+    curve(&mut s, 0, "listing", "#888", &listing);
+    for (i, p) in PEERS.iter().enumerate() {
+        curve(&mut s, PEERS.len() - i, p.name, p.colour, &of(i + 1));
+    }
+    curve(&mut s, PEERS.len() + 1, "proved", "#0a6", &of(0));
     s + "</svg>\n"
 }

@@ -1,10 +1,10 @@
 //! Times of one Answer, by stations and events.
-use crate::plain;
+use crate::codes::{cells, head, names, ratio_names, PEERS};
 use compare::draw::Draw;
 use compare::formula::Tokens;
 use compare::log::Log;
 use compare::made::{self, Shape};
-use compare::operations::{self, BARS, LINE, WORKSPACE};
+use compare::operations::{BARS, LINE, WORKSPACE};
 use compare::{listing, proved};
 use std::fmt::{Display, Formatter, Result, Write};
 use std::hint::black_box;
@@ -39,18 +39,15 @@ impl Display for Spread {
     }
 }
 
-#[derive(Clone, Copy)]
 pub struct Row {
     pub stations: usize,
     pub events: usize,
     rounds: f64,
-    pub proved: Spread,
-    pub independent: Spread,
-    pub plain: Spread,
+    /// The proved code's, then each peer's.
+    pub times: Vec<Spread>,
+    /// The proved code's time over each peer's in the same run.
+    pub ratios: Vec<Spread>,
     pub listing: Option<Spread>,
-    /// The proved code's time over the others' in the same run.
-    pub to_independent: Spread,
-    pub to_plain: Spread,
 }
 
 /// A log with questions of width 16, one event in three of which has seen another station. A shorter one is the beginning of a longer.
@@ -100,29 +97,29 @@ fn row(stations: usize, events: usize) -> Row {
     let log = Log::read(&data).unwrap();
     let (mut ws, mut bs, mut out) = (vec![1; WORKSPACE], vec![1; BARS], vec![1; LINE]);
     let mut sum = 0;
-    for (q, f) in log.questions.iter().enumerate() {
+    for q in 0..QUESTIONS {
         let n = proved::answer(&data, q, &mut ws, &mut bs, &mut out).unwrap();
-        assert_eq!(out[..n], plain::answer_question(&log, f), "the plain code's line");
         sum += rounds(&out[..n]);
+        for p in PEERS {
+            let line = &mut [0; LINE];
+            let m = (p.answer)(&data, q, line);
+            assert_eq!(out[..n], line[..m], "the line of {}", p.name);
+        }
     }
     let mut run = || {
-        let proved = micros(|| (0..QUESTIONS).for_each(|q| _ = black_box(proved::answer(&data, q, &mut ws, &mut bs, &mut out))));
-        let independent = micros(|| (0..QUESTIONS).for_each(|q| _ = black_box(operations::answer(&data, q, WORKSPACE, BARS, &mut out))));
-        let plain = micros(|| (0..QUESTIONS).for_each(|q| _ = black_box(plain::answer(&data, q, &mut out))));
-        [proved, independent, plain].map(|t| t / QUESTIONS as f64)
+        let mut times = vec![micros(|| (0..QUESTIONS).for_each(|q| _ = black_box(proved::answer(&data, q, &mut ws, &mut bs, &mut out))))];
+        times.extend(PEERS.iter().map(|p| micros(|| (0..QUESTIONS).for_each(|q| _ = black_box((p.answer)(&data, q, &mut out))))));
+        times.iter().map(|t| t / QUESTIONS as f64).collect()
     };
-    let runs: Vec<[f64; 3]> = (0..RUNS).map(|_| run()).collect();
+    let runs: Vec<Vec<f64>> = (0..RUNS).map(|_| run()).collect();
     let small = listing::count(&log) <= 100 * LISTED && listing::consistent(&log).len() <= LISTED;
     Row {
         stations,
         events,
         rounds: sum as f64 / QUESTIONS as f64,
-        proved: Spread::of(runs.iter().map(|r| r[0])),
-        independent: Spread::of(runs.iter().map(|r| r[1])),
-        plain: Spread::of(runs.iter().map(|r| r[2])),
+        times: (0..=PEERS.len()).map(|code| Spread::of(runs.iter().map(|r| r[code]))).collect(),
+        ratios: (1..=PEERS.len()).map(|code| Spread::of(runs.iter().map(|r| r[0] / r[code]))).collect(),
         listing: small.then(|| Spread::of((0..5).map(|_| micros(|| _ = black_box(listed(&data)))))),
-        to_independent: Spread::of(runs.iter().map(|r| r[0] / r[1])),
-        to_plain: Spread::of(runs.iter().map(|r| r[0] / r[2])),
     }
 }
 
@@ -138,30 +135,35 @@ fn slope(points: &[(f64, f64)]) -> f64 {
     logs.iter().map(|p| (p.0 - mx) * (p.1 - my)).sum::<f64>() / logs.iter().map(|p| (p.0 - mx).powi(2)).sum::<f64>()
 }
 
-/// The exponents in events of rounds, the proved code's time and the independent code's.
-pub fn growth(rows: &[Row], stations: usize) -> [f64; 3] {
-    let some = || rows.iter().filter(|r| r.stations == stations && r.events >= 16);
-    let of = |figure: fn(&Row) -> f64| slope(&some().map(|r| (r.events as f64, figure(r))).collect::<Vec<_>>());
-    [of(|r| r.rounds), of(|r| r.proved.median), of(|r| r.independent.median)]
+/// The exponent of a figure in events.
+fn growth(rows: &[Row], stations: usize, figure: impl Fn(&Row) -> f64) -> f64 {
+    let some = rows.iter().filter(|r| r.stations == stations && r.events >= 16);
+    slope(&some.map(|r| (r.events as f64, figure(r))).collect::<Vec<_>>())
+}
+
+pub fn growth_of_rounds(rows: &[Row], stations: usize) -> f64 {
+    growth(rows, stations, |r| r.rounds)
+}
+
+pub fn growth_of_time(rows: &[Row], stations: usize, code: usize) -> f64 {
+    growth(rows, stations, |r| r.times[code].median)
 }
 
 pub fn section(rows: &[Row]) -> String {
     let mut page = String::from(include_str!("timed.md"));
+    page += &head(format!("| stations | events | rounds | proved | {} | listing | {} |", names(), ratio_names()));
     for r in rows {
-        let listing = r.listing.map_or("-".into(), |t| format!("{t:.0}"));
-        writeln!(
-            page,
-            "| {} | {} | {:.0} | {:.1} | {:.1} | {:.1} | {listing} | {:.2} | {:.2} |",
-            r.stations, r.events, r.rounds, r.proved, r.independent, r.plain, r.to_independent, r.to_plain
-        )
-        .unwrap();
+        let Row { stations, events, rounds, times, ratios, listing } = r;
+        let (peers, ratios) = (cells(|i| format!("{:.1}", times[i + 1])), cells(|i| format!("{:.2}", ratios[i])));
+        let listing = listing.map_or("-".into(), |t| format!("{t:.0}"));
+        writeln!(page, "| {stations} | {events} | {rounds:.0} | {:.1} | {peers} | {listing} | {ratios} |", times[0]).unwrap();
     }
     page += "\n![Time of one Answer by events](performance.svg)\n\n## Growth in events\n\n";
     page += "Exponents of rounds and of time over the events, by least squares over 16 to 127 events.\n\n";
-    page += "| stations | rounds | proved | independent |\n|---|---|---|---|\n";
+    page += &head(format!("| stations | rounds | proved | {} |", names()));
     for stations in STATIONS {
-        let [rounds, proved, independent] = growth(rows, stations);
-        writeln!(page, "| {stations} | {rounds:.2} | {proved:.2} | {independent:.2} |").unwrap();
+        let time = |code| format!("{:.2}", growth_of_time(rows, stations, code));
+        writeln!(page, "| {stations} | {:.2} | {} | {} |", growth_of_rounds(rows, stations), time(0), cells(|i| time(i + 1))).unwrap();
     }
     page
 }

@@ -13,7 +13,7 @@ fn refused<T>(fault: Fault) -> Result<T, Refusal> {
 }
 
 /// Bytes at the front of an output.
-fn put(bytes: &[u8], out: &mut [u8]) -> usize {
+pub fn put(bytes: &[u8], out: &mut [u8]) -> usize {
     out[..bytes.len()].copy_from_slice(bytes);
     bytes.len()
 }

@@ -1,0 +1,53 @@
+//! The codes beside which the proved one is measured: one more is one more entry here.
+use crate::plain;
+use compare::operations::{self, BARS, WORKSPACE};
+
+pub struct Peer {
+    pub name: &'static str,
+    pub about: &'static str,
+    pub colour: &'static str,
+    /// The most that the proved code is to take of its time.
+    pub most: f64,
+    /// One Answer: the line of a question of an accepted log, at the front of the output; its length.
+    pub answer: fn(&[u8], usize, &mut [u8]) -> usize,
+    /// The whole program: the lines of all questions, likewise.
+    pub printed: fn(&[u8], &mut [u8]) -> usize,
+}
+
+pub const PEERS: &[Peer] = &[
+    Peer {
+        name: "independent",
+        about: "the Rust code of tests/compare, written from document 01: cuts of fixed size joined in place, one vector of rows a structure, \
+            no allocation in a round",
+        colour: "#06c",
+        most: 1.0,
+        answer: |data, q, out| operations::answer(data, q, WORKSPACE, BARS, out).unwrap(),
+        printed: |data, out| operations::put(&operations::printed(data), out),
+    },
+    Peer {
+        name: "plain",
+        about: "Rust code of bench/ for the same rule: cuts handed on by value, an `Option` for each row",
+        colour: "#c60",
+        most: 0.5,
+        answer: |data, q, out| operations::put(&plain::answer(data, q), out),
+        printed: |data, out| operations::put(&plain::printed(data), out),
+    },
+];
+
+/// A cell for each, between the bars of a table.
+pub fn cells(of: impl Fn(usize) -> String) -> String {
+    (0..PEERS.len()).map(of).collect::<Vec<String>>().join(" | ")
+}
+
+pub fn names() -> String {
+    cells(|i| PEERS[i].name.into())
+}
+
+pub fn ratio_names() -> String {
+    cells(|i| format!("proved / {}", PEERS[i].name))
+}
+
+/// The head of a table, with the line below it.
+pub fn head(line: String) -> String {
+    format!("{line}\n|{}\n", "---|".repeat(line.matches('|').count() - 1))
+}
