@@ -2,6 +2,7 @@
 //!
 //! Usage: bench [FOLDER]      from the repository's root, after `rt check moments` and `rt staticlib exports`; FOLDER: docs
 //!        bench print CODE    answers an accepted log from standard input by another code: `independent` or `plain`
+mod arena;
 mod codes;
 mod counted;
 mod plain;
@@ -19,7 +20,7 @@ use timed::Row;
 fn print(peer: &Peer) {
     let (mut data, mut out) = (Vec::new(), [0; QUESTIONS * LINE]);
     stdin().read_to_end(&mut data).unwrap();
-    let n = (peer.printed)(&data, &mut out);
+    let n = arena::lent(|| (peer.printed)(&data, &mut out));
     stdout().write_all(&out[..n]).unwrap();
 }
 

@@ -1,4 +1,5 @@
 //! Times of one Answer, by stations and events.
+use crate::arena::{lent, touch};
 use crate::codes::{cells, head, names, ratio_names, PEERS};
 use compare::draw::Draw;
 use compare::formula::Tokens;
@@ -102,13 +103,13 @@ fn row(stations: usize, events: usize) -> Row {
         sum += rounds(&out[..n]);
         for p in PEERS {
             let line = &mut [0; LINE];
-            let m = (p.answer)(&data, q, line);
+            let m = lent(|| (p.answer)(&data, q, line));
             assert_eq!(out[..n], line[..m], "the line of {}", p.name);
         }
     }
     let mut run = || {
         let mut times = vec![micros(|| (0..QUESTIONS).for_each(|q| _ = black_box(proved::answer(&data, q, &mut ws, &mut bs, &mut out))))];
-        times.extend(PEERS.iter().map(|p| micros(|| (0..QUESTIONS).for_each(|q| _ = black_box((p.answer)(&data, q, &mut out))))));
+        times.extend(PEERS.iter().map(|p| micros(|| (0..QUESTIONS).for_each(|q| _ = black_box(lent(|| (p.answer)(&data, q, &mut out)))))));
         times.iter().map(|t| t / QUESTIONS as f64).collect()
     };
     let runs: Vec<Vec<f64>> = (0..RUNS).map(|_| run()).collect();
@@ -124,6 +125,7 @@ fn row(stations: usize, events: usize) -> Row {
 }
 
 pub fn grid() -> Vec<Row> {
+    touch();
     STATIONS.iter().flat_map(|&stations| EVENTS.map(|events| row(stations, events))).collect()
 }
 
