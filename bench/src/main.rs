@@ -1,6 +1,7 @@
 //! Measures the proved code beside other codes and a plain listing of every cut, and writes PERFORMANCE.md with a plot.
 //!
 //! Usage: bench [FOLDER]      from the repository's root, after `rt check moments` and `rt staticlib exports`; FOLDER: docs
+//!        bench run           the times of one run, a line for each log and code
 //!        bench print CODE    answers an accepted log from standard input by another code: `independent` or `plain`
 mod arena;
 mod codes;
@@ -10,12 +11,12 @@ mod plot;
 mod spin;
 mod timed;
 
-use codes::{Peer, PEERS};
+use codes::{cells, head, ratio_names, Peer, PEERS};
 use compare::log::QUESTIONS;
 use compare::operations::LINE;
 use counted::{Memory, Program};
 use std::io::{stdin, stdout, Read, Write};
-use timed::Row;
+use timed::{Row, Spread, PASSES, RUNS};
 
 fn print(peer: &Peer) {
     let (mut data, mut out) = (Vec::new(), [0; QUESTIONS * LINE]);
@@ -24,38 +25,48 @@ fn print(peer: &Peer) {
     stdout().write_all(&out[..n]).unwrap();
 }
 
-/// The page's head, with a line for each peer.
+/// The page's head, with a line for each peer and how often is measured.
 fn opening() -> String {
     let peers: Vec<String> = PEERS.iter().map(|p| format!("- *{}*: {}.", p.name, p.about)).collect();
-    include_str!("head.md").replace("PEERS", &peers.join("\n"))
+    let filled = include_str!("head.md").replace("PEERS", &peers.join("\n"));
+    filled.replace("RUNS", &RUNS.to_string()).replace("PASSES", &PASSES.to_string())
 }
 
 /// The figures for the largest log, which is the last of each table.
 fn short(rows: &[Row], programs: &[Program], memory: &[Memory]) -> String {
     let (row, program) = (rows.last().unwrap(), programs.last().unwrap());
-    let (rounds, proved) = (timed::growth_of_rounds(rows, row.stations), timed::growth_of_time(rows, row.stations, 0));
+    let (rounds, times) = (timed::growth_of_rounds(rows, row.stations), timed::growth_of_time(rows, row.stations, 0));
+    let time = Spread::over(times.iter().copied());
     let stack = memory.iter().map(|m| m.stack).max().unwrap();
     let heap = memory.iter().map(|m| m.heap).max().unwrap();
     let million = |n: u64| format!("{:.1}", n as f64 / 1e6);
     let peers = |of: &dyn Fn(usize, &Peer) -> String| PEERS.iter().enumerate().map(|(i, p)| of(i, p)).collect::<String>();
-    format!(
+    let mut page = format!(
         "## In short\n\n8 stations, 127 events, 16 questions of width 16:\n\n| figure | asked | measured |\n|---|---|---|\n{}\
         | instructions of the whole program | at most 50 million | {} million{} |\n\
-        | growth in events, exponent of time | at most that of rounds, {rounds:.2} | {proved:.2} |\n\
+        | growth in events, exponent of time | at most that of rounds, {rounds:.2} | {time:.2} |\n\
         | heap | none | {heap} bytes |\n| stack | under 262144 bytes | {stack} bytes |\n",
-        peers(&|i, p| format!("| time of Answer, proved / {} | at most {} | {:.2} |\n", p.name, p.most, row.ratios[i])),
+        peers(&|i, p| format!("| time of Answer, proved / {} | at most {} | {:.2} |\n", p.name, p.most, row.ratio(i))),
         million(program.proved),
         peers(&|i, p| format!("; {} {}", p.name, million(program.peers[i]))),
-    )
+    );
+    page += include_str!("runs.md");
+    page += &head(format!("| run | {} | growth in events, exponent of time |", ratio_names()));
+    for (run, time) in times.iter().enumerate() {
+        page += &format!("| {} | {} | {time:.2} |\n", run + 1, cells(|i| format!("{:.2}", row.ratios[i][run])));
+    }
+    page
 }
 
 fn main() {
     let args: Vec<String> = std::env::args().skip(1).collect();
-    if let [command, code] = &args[..] {
-        assert_eq!(command, "print");
-        return print(PEERS.iter().find(|p| p.name == code).expect("a code"));
-    }
-    let folder = args.first().map_or("docs", String::as_str);
+    let words: Vec<&str> = args.iter().map(String::as_str).collect();
+    let folder = match words[..] {
+        ["run"] => return std::print!("{}", timed::run()),
+        ["print", code] => return print(PEERS.iter().find(|p| p.name == code).expect("a code")),
+        [folder] => folder,
+        _ => "docs",
+    };
     let (rows, programs, memory) = (timed::grid(), counted::programs(), counted::memory());
     let page = [
         opening(),

@@ -1,4 +1,4 @@
-//! The times as a plot: both axes logarithmic, a line for each code at 8 stations, a bar for its quartiles.
+//! The times as a plot: both axes logarithmic, a line for each code at 8 stations, a bar from the least to the greatest of the runs.
 use crate::codes::PEERS;
 use crate::timed::{Row, Spread};
 use std::fmt::Write;
@@ -41,8 +41,8 @@ fn curve(s: &mut String, place: usize, name: &str, colour: &str, points: &[(usiz
 
 pub fn svg(rows: &[Row]) -> String {
     let rows: Vec<&Row> = rows.iter().filter(|r| r.stations == 8).collect();
-    let of = |code: usize| rows.iter().map(|r| (r.events, r.times[code])).collect::<Vec<_>>();
-    let listing: Vec<_> = rows.iter().filter_map(|r| Some((r.events, r.listing?))).collect();
+    let of = |code: usize| rows.iter().map(|r| (r.events, r.time(code))).collect::<Vec<_>>();
+    let listing: Vec<_> = rows.iter().filter_map(|r| Some((r.events, r.listing()?))).collect();
     let mut s = String::from("<svg xmlns=\"http://www.w3.org/2000/svg\" viewBox=\"0 0 620 420\" font-family=\"sans-serif\" font-size=\"12\">\n");
     s += "<rect width=\"620\" height=\"420\" fill=\"white\"/>\n";
     s += "<text x=\"20\" y=\"24\" font-size=\"15\">One Answer at 8 stations, width 16: microseconds by events</text>\n";

@@ -7,16 +7,23 @@ use compare::log::Log;
 use compare::made::{self, Shape};
 use compare::operations::{BARS, LINE, WORKSPACE};
 use compare::{listing, proved};
+use std::env::current_exe;
 use std::fmt::{Display, Formatter, Result, Write};
 use std::hint::black_box;
+use std::process::{Command, Stdio};
 
 const STATIONS: [usize; 4] = [2, 4, 6, 8];
 const EVENTS: [usize; 5] = [8, 16, 32, 64, 127];
 const QUESTIONS: usize = 16;
-const RUNS: usize = 25;
+/// Whole runs, each in a process of its own; how often one goes over all logs, and how often it lists.
+pub const RUNS: usize = 5;
+pub const PASSES: usize = 25;
+const LISTINGS: usize = 5;
 const LISTED: usize = 20_000;
+/// What a run tells of each log: a line for each code and one for the listing.
+const LINES: usize = PEERS.len() + 2;
 
-/// A median and its quartiles.
+/// A median, and the figures between which the others lie.
 #[derive(Clone, Copy)]
 pub struct Spread {
     pub low: f64,
@@ -25,11 +32,26 @@ pub struct Spread {
 }
 
 impl Spread {
-    fn of(figures: impl Iterator<Item = f64>) -> Self {
+    /// The middle of an odd number of figures, and those as many places before and after it.
+    fn about(figures: impl Iterator<Item = f64>, places: impl Fn(usize) -> usize) -> Self {
         let mut all: Vec<f64> = figures.collect();
         all.sort_by(f64::total_cmp);
-        let at = |quarter: usize| all[(all.len() - 1) * quarter / 4];
-        Spread { low: at(1), median: at(2), high: at(3) }
+        let (middle, away) = (all.len() / 2, places(all.len()));
+        Spread { low: all[middle - away], median: all[middle], high: all[middle + away] }
+    }
+
+    /// The quartiles within one run.
+    fn within(figures: impl Iterator<Item = f64>) -> Self {
+        Self::about(figures, |n| n / 4)
+    }
+
+    /// The least and the greatest of all runs.
+    pub fn over(figures: impl Iterator<Item = f64>) -> Self {
+        Self::about(figures, |n| n / 2)
+    }
+
+    fn of_medians(runs: &[Spread]) -> Self {
+        Self::over(runs.iter().map(|r| r.median))
     }
 }
 
@@ -40,15 +62,31 @@ impl Display for Spread {
     }
 }
 
+/// The figures of one log; each list of spreads has one for each run.
 pub struct Row {
     pub stations: usize,
     pub events: usize,
     rounds: f64,
     /// The proved code's, then each peer's.
-    pub times: Vec<Spread>,
-    /// The proved code's time over each peer's in the same run.
-    pub ratios: Vec<Spread>,
-    pub listing: Option<Spread>,
+    times: Vec<Vec<Spread>>,
+    /// The proved code's time over each peer's, taken next to it.
+    pub ratios: Vec<Vec<Spread>>,
+    /// None where there are too many cuts.
+    listing: Vec<Spread>,
+}
+
+impl Row {
+    pub fn time(&self, code: usize) -> Spread {
+        Spread::of_medians(&self.times[code])
+    }
+
+    pub fn ratio(&self, peer: usize) -> Spread {
+        Spread::of_medians(&self.ratios[peer])
+    }
+
+    pub fn listing(&self) -> Option<Spread> {
+        (!self.listing.is_empty()).then(|| Spread::of_medians(&self.listing))
+    }
 }
 
 /// A log with questions of width 16, one event in three of which has seen another station. A shorter one is the beginning of a longer.
@@ -86,47 +124,96 @@ pub fn micros(work: impl FnOnce()) -> f64 {
 }
 
 /// The maximal cuts and the start, by a listing of every cut.
-fn listed(data: &[u8]) -> (usize, bool) {
+fn list(data: &[u8]) -> (usize, bool) {
     let log = Log::read(data).unwrap();
     let cuts = listing::consistent(&log);
     let truth = listing::truth(&log, &cuts, &mut Tokens(&log.questions[0]));
     (listing::maximal(&cuts, &truth).len(), truth[0])
 }
 
-fn row(stations: usize, events: usize) -> Row {
-    let data = wide_log(stations, events, QUESTIONS);
-    let log = Log::read(&data).unwrap();
-    let (mut ws, mut bs, mut out) = (vec![1; WORKSPACE], vec![1; BARS], vec![1; LINE]);
-    let mut sum = 0;
+struct Case {
+    stations: usize,
+    events: usize,
+    data: Vec<u8>,
+    listed: bool,
+}
+
+fn cases() -> Vec<Case> {
+    let case = |stations, events| {
+        let data = wide_log(stations, events, QUESTIONS);
+        let log = Log::read(&data).unwrap();
+        let listed = listing::count(&log) <= 100 * LISTED && listing::consistent(&log).len() <= LISTED;
+        Case { stations, events, data, listed }
+    };
+    STATIONS.iter().flat_map(|&stations| EVENTS.map(|events| case(stations, events))).collect()
+}
+
+/// The rounds of a question on average; the peers write the proved code's lines.
+fn rounds_of(data: &[u8]) -> f64 {
+    let (mut ws, mut bs, mut out, mut sum) = (vec![0; WORKSPACE], vec![0; BARS], vec![0; LINE], 0);
     for q in 0..QUESTIONS {
-        let n = proved::answer(&data, q, &mut ws, &mut bs, &mut out).unwrap();
+        let n = proved::answer(data, q, &mut ws, &mut bs, &mut out).unwrap();
         sum += rounds(&out[..n]);
         for p in PEERS {
             let line = &mut [0; LINE];
-            let m = lent(|| (p.answer)(&data, q, line));
+            let m = lent(|| (p.answer)(data, q, line));
             assert_eq!(out[..n], line[..m], "the line of {}", p.name);
         }
     }
-    let mut run = || {
-        let mut times = vec![micros(|| (0..QUESTIONS).for_each(|q| _ = black_box(proved::answer(&data, q, &mut ws, &mut bs, &mut out))))];
-        times.extend(PEERS.iter().map(|p| micros(|| (0..QUESTIONS).for_each(|q| _ = black_box(lent(|| (p.answer)(&data, q, &mut out)))))));
-        times.iter().map(|t| t / QUESTIONS as f64).collect()
-    };
-    let runs: Vec<Vec<f64>> = (0..RUNS).map(|_| run()).collect();
-    let small = listing::count(&log) <= 100 * LISTED && listing::consistent(&log).len() <= LISTED;
-    Row {
-        stations,
-        events,
-        rounds: sum as f64 / QUESTIONS as f64,
-        times: (0..=PEERS.len()).map(|code| Spread::of(runs.iter().map(|r| r[code]))).collect(),
-        ratios: (1..=PEERS.len()).map(|code| Spread::of(runs.iter().map(|r| r[0] / r[code]))).collect(),
-        listing: small.then(|| Spread::of((0..5).map(|_| micros(|| _ = black_box(listed(&data)))))),
+    sum as f64 / QUESTIONS as f64
+}
+
+/// Microseconds of one of 16 Answers, after one that is not counted.
+fn time(mut answer: impl FnMut(usize) -> usize) -> f64 {
+    black_box(answer(0));
+    micros(|| (0..QUESTIONS).for_each(|q| _ = black_box(answer(q)))) / QUESTIONS as f64
+}
+
+/// One run: for each log a line of the proved code's times, a line for each peer and one for the listing.
+pub fn run() -> String {
+    let (cases, mut ws, mut bs, mut out) = (cases(), vec![1; WORKSPACE], vec![1; BARS], vec![1; LINE]);
+    let mut times = vec![vec![vec![]; LINES]; cases.len()];
+    touch();
+    for pass in 0..PASSES {
+        for (Case { data, listed, .. }, times) in cases.iter().zip(&mut times) {
+            times[0].push(time(|q| proved::answer(data, q, &mut ws, &mut bs, &mut out).unwrap()));
+            for (p, times) in PEERS.iter().zip(&mut times[1..]) {
+                times.push(time(|q| lent(|| (p.answer)(data, q, &mut out))));
+            }
+            if *listed && pass < LISTINGS {
+                black_box(list(data));
+                times[LINES - 1].push(micros(|| _ = black_box(list(data))));
+            }
+        }
     }
+    let line = |times: &Vec<f64>| times.iter().map(f64::to_string).collect::<Vec<_>>().join(" ") + "\n";
+    times.iter().flatten().map(line).collect()
+}
+
+/// The lines of a run in a process of its own.
+fn apart() -> Vec<Vec<f64>> {
+    let out = Command::new(current_exe().unwrap()).arg("run").stderr(Stdio::inherit()).output().unwrap();
+    assert!(out.status.success(), "a run");
+    let lines = String::from_utf8(out.stdout).unwrap();
+    lines.lines().map(|l| l.split_whitespace().map(|t| t.parse().unwrap()).collect()).collect()
 }
 
 pub fn grid() -> Vec<Row> {
-    touch();
-    STATIONS.iter().flat_map(|&stations| EVENTS.map(|events| row(stations, events))).collect()
+    let runs: Vec<Vec<Vec<f64>>> = (0..RUNS).map(|_| apart()).collect();
+    let row = |(k, Case { stations, events, data, listed }): (usize, Case)| {
+        let lines = |code: usize| runs.iter().map(move |run| &run[k * LINES + code]);
+        let times = |code: usize| lines(code).map(|t| Spread::within(t.iter().copied())).collect();
+        let ratios = |code: usize| lines(0).zip(lines(code)).map(|(t, u)| Spread::within(t.iter().zip(u).map(|(t, u)| t / u))).collect();
+        Row {
+            stations,
+            events,
+            rounds: rounds_of(&data),
+            times: (0..=PEERS.len()).map(times).collect(),
+            ratios: (1..=PEERS.len()).map(ratios).collect(),
+            listing: if listed { times(LINES - 1) } else { vec![] },
+        }
+    };
+    cases().into_iter().enumerate().map(row).collect()
 }
 
 /// The slope of log y over log x, by least squares.
@@ -147,24 +234,24 @@ pub fn growth_of_rounds(rows: &[Row], stations: usize) -> f64 {
     growth(rows, stations, |r| r.rounds)
 }
 
-pub fn growth_of_time(rows: &[Row], stations: usize, code: usize) -> f64 {
-    growth(rows, stations, |r| r.times[code].median)
+/// One for each run.
+pub fn growth_of_time(rows: &[Row], stations: usize, code: usize) -> Vec<f64> {
+    (0..RUNS).map(|run| growth(rows, stations, |r| r.times[code][run].median)).collect()
 }
 
 pub fn section(rows: &[Row]) -> String {
     let mut page = String::from(include_str!("timed.md"));
     page += &head(format!("| stations | events | rounds | proved | {} | listing | {} |", names(), ratio_names()));
     for r in rows {
-        let Row { stations, events, rounds, times, ratios, listing } = r;
-        let (peers, ratios) = (cells(|i| format!("{:.1}", times[i + 1])), cells(|i| format!("{:.2}", ratios[i])));
-        let listing = listing.map_or("-".into(), |t| format!("{t:.0}"));
-        writeln!(page, "| {stations} | {events} | {rounds:.0} | {:.1} | {peers} | {listing} | {ratios} |", times[0]).unwrap();
+        let Row { stations, events, rounds, .. } = r;
+        let (peers, ratios) = (cells(|i| format!("{:.1}", r.time(i + 1))), cells(|i| format!("{:.2}", r.ratio(i))));
+        let listing = r.listing().map_or("-".into(), |t| format!("{t:.0}"));
+        writeln!(page, "| {stations} | {events} | {rounds:.0} | {:.1} | {peers} | {listing} | {ratios} |", r.time(0)).unwrap();
     }
-    page += "\n![Time of one Answer by events](performance.svg)\n\n## Growth in events\n\n";
-    page += "Exponents of rounds and of time over the events, by least squares over 16 to 127 events.\n\n";
+    page += include_str!("growth.md");
     page += &head(format!("| stations | rounds | proved | {} |", names()));
     for stations in STATIONS {
-        let time = |code| format!("{:.2}", growth_of_time(rows, stations, code));
+        let time = |code| format!("{:.2}", Spread::over(growth_of_time(rows, stations, code).into_iter()));
         writeln!(page, "| {stations} | {:.2} | {} | {} |", growth_of_rounds(rows, stations), time(0), cells(|i| time(i + 1))).unwrap();
     }
     page
