@@ -6,8 +6,8 @@ pub struct Peer {
     pub name: &'static str,
     pub about: &'static str,
     pub colour: &'static str,
-    /// The most that the proved code is to take of its time.
-    pub most: f64,
+    /// The product's target, if it has one: the most that the proved code is to take of this code's time.
+    pub target: Option<f64>,
     /// One Answer: the line of a question of an accepted log, at the front of the output; its length.
     pub answer: fn(&[u8], usize, &mut [u8]) -> usize,
     /// The whole program: the lines of all questions, likewise.
@@ -20,7 +20,7 @@ pub const PEERS: &[Peer] = &[
         about: "the Rust code of tests/compare, written from document 01: cuts of fixed size joined in place, one vector of rows a structure, \
             no allocation in a round",
         colour: "#06c",
-        most: 1.0,
+        target: Some(1.0),
         answer: |data, q, out| operations::answer(data, q, WORKSPACE, BARS, out).unwrap(),
         printed: |data, out| operations::put(&operations::printed(data), out),
     },
@@ -28,7 +28,7 @@ pub const PEERS: &[Peer] = &[
         name: "plain",
         about: "Rust code of bench/ for the same rule: cuts handed on by value, an `Option` for each row",
         colour: "#c60",
-        most: 0.5,
+        target: Some(0.5),
         answer: |data, q, out| operations::put(&plain::answer(data, q), out),
         printed: |data, out| operations::put(&plain::printed(data), out),
     },

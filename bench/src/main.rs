@@ -32,23 +32,36 @@ fn opening() -> String {
     filled.replace("RUNS", &RUNS.to_string()).replace("PASSES", &PASSES.to_string())
 }
 
+/// How many of the runs keep to a target.
+fn kept(figures: &[f64], most: f64) -> String {
+    format!("in {} of {} runs", figures.iter().filter(|&&x| x <= most).count(), figures.len())
+}
+
 /// The figures for the largest log, which is the last of each table.
 fn short(rows: &[Row], programs: &[Program], memory: &[Memory]) -> String {
     let (row, program) = (rows.last().unwrap(), programs.last().unwrap());
+    let mut page = include_str!("short.md").to_string() + &head("| figure | target | met | measured |".into());
+    for (i, p) in PEERS.iter().enumerate() {
+        let medians: Vec<f64> = row.ratios[i].iter().map(|r| r.median).collect();
+        let (target, met) = p.target.map_or(("-".into(), "-".into()), |most| (format!("at most {most}"), kept(&medians, most)));
+        page += &format!("| time of Answer, proved / {} | {target} | {met} | {:.2} |\n", p.name, row.ratio(i));
+    }
+    let yes = |met: bool| if met { "yes" } else { "no" };
+    let million = |n: u64| format!("{:.1}", n as f64 / 1e6);
+    let peers: String = PEERS.iter().zip(&program.peers).map(|(p, &n)| format!("; {} {}", p.name, million(n))).collect();
     let (rounds, times) = (timed::growth_of_rounds(rows, row.stations), timed::growth_of_time(rows, row.stations, 0));
-    let time = Spread::over(times.iter().copied());
     let stack = memory.iter().map(|m| m.stack).max().unwrap();
     let heap = memory.iter().map(|m| m.heap).max().unwrap();
-    let million = |n: u64| format!("{:.1}", n as f64 / 1e6);
-    let peers = |of: &dyn Fn(usize, &Peer) -> String| PEERS.iter().enumerate().map(|(i, p)| of(i, p)).collect::<String>();
-    let mut page = format!(
-        "## In short\n\n8 stations, 127 events, 16 questions of width 16:\n\n| figure | asked | measured |\n|---|---|---|\n{}\
-        | instructions of the whole program | at most 50 million | {} million{} |\n\
-        | growth in events, exponent of time | at most that of rounds, {rounds:.2} | {time:.2} |\n\
-        | heap | none | {heap} bytes |\n| stack | under 262144 bytes | {stack} bytes |\n",
-        peers(&|i, p| format!("| time of Answer, proved / {} | at most {} | {:.2} |\n", p.name, p.most, row.ratio(i))),
+    page += &format!(
+        "| instructions of the whole program | at most 50 million | {} | {} million{peers} |\n\
+        | growth in events, exponent of time | at most that of rounds, {rounds:.2} | {} | {:.2} |\n\
+        | heap | none | {} | {heap} bytes |\n| stack | under 262144 bytes | {} | {stack} bytes |\n",
+        yes(program.proved <= 50_000_000),
         million(program.proved),
-        peers(&|i, p| format!("; {} {}", p.name, million(program.peers[i]))),
+        kept(&times, rounds),
+        Spread::over(times.iter().copied()),
+        yes(heap == 0),
+        yes(stack < 262144),
     );
     page += include_str!("runs.md");
     page += &head(format!("| run | {} | growth in events, exponent of time |", ratio_names()));
