@@ -6,7 +6,7 @@ use std::fmt::Write;
 use std::fs::{create_dir_all, write, File};
 use std::process::Command;
 
-const PROGRAM: &str = "target/bin/moments";
+pub const PROGRAM: &str = "target/bin/moments";
 const FOLDER: &str = "target/bench";
 
 /// A log in a file under the folder.

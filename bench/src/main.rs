@@ -1,6 +1,7 @@
 //! Measures the proved code beside other codes and a plain listing of every cut, and writes PERFORMANCE.md with a plot.
 //!
-//! Usage: bench [FOLDER]      from the repository's root, after `rt check moments` and `rt staticlib exports`; FOLDER: docs
+//! Usage: bench [FOLDER]      from the repository's root, after `rt check moments` and `rt staticlib exports`; FOLDER: docs; exit code 2
+//!                            and one line where something that it needs is not there
 //!        bench run           the times of one run, a line for each log and code
 //!        bench print CODE    answers an accepted log from standard input by another code: `independent` or `plain`
 mod arena;
@@ -14,8 +15,11 @@ mod timed;
 use codes::{cells, head, ratio_names, Peer, PEERS};
 use compare::log::QUESTIONS;
 use compare::operations::LINE;
-use counted::{Memory, Program};
+use compare::proved;
+use counted::{Memory, Program, PROGRAM};
 use std::io::{stdin, stdout, Read, Write};
+use std::path::Path;
+use std::process::{exit, Command};
 use timed::{Row, Spread, PASSES, RUNS};
 
 fn print(peer: &Peer) {
@@ -71,15 +75,43 @@ fn short(rows: &[Row], programs: &[Program], memory: &[Memory]) -> String {
     page
 }
 
+/// What is not there, each with what to run or install.
+fn missing(folder: &str) -> Vec<String> {
+    let mut all: Vec<String> = proved::MISSING.into_iter().map(String::from).collect();
+    if !Path::new(PROGRAM).exists() {
+        all.push(format!("{PROGRAM} is not there: run `rt check moments`, and this from the repository's root"));
+    }
+    for (tool, package) in [("valgrind", "valgrind"), ("nm", "binutils")] {
+        if Command::new(tool).arg("--version").output().is_err() {
+            all.push(format!("{tool} is not there: install Debian's package `{package}`"));
+        }
+    }
+    if !Path::new(folder).is_dir() {
+        all.push(format!("{folder} is no folder"));
+    }
+    all
+}
+
+/// Ends with one line on standard error.
+fn refuse(why: &str) -> ! {
+    eprintln!("bench: {why}");
+    exit(2)
+}
+
 fn main() {
     let args: Vec<String> = std::env::args().skip(1).collect();
     let words: Vec<&str> = args.iter().map(String::as_str).collect();
     let folder = match words[..] {
         ["run"] => return std::print!("{}", timed::run()),
-        ["print", code] => return print(PEERS.iter().find(|p| p.name == code).expect("a code")),
+        ["print", code] => return print(PEERS.iter().find(|p| p.name == code).unwrap_or_else(|| refuse("no such code"))),
         [folder] => folder,
-        _ => "docs",
+        [] => "docs",
+        _ => refuse("usage: bench [FOLDER]"),
     };
+    let missing = missing(folder);
+    if !missing.is_empty() {
+        refuse(&missing.join("; "));
+    }
     let (rows, programs, memory) = (timed::grid(), counted::programs(), counted::memory());
     let page = [
         opening(),

@@ -1,4 +1,5 @@
 //! The same question put to the model checker Spin, where it is installed.
+use crate::codes::head;
 use crate::timed::micros;
 use compare::draw::Draw;
 use compare::formula::Token;
@@ -9,10 +10,9 @@ use compare::operations::{BARS, LINE, WORKSPACE};
 use compare::proved;
 use std::fmt::Write;
 use std::process::{Command, Output};
-use std::time::Instant;
 
 const FOLDER: &str = "target/bench";
-const SECONDS: &str = "90";
+const SECONDS: &str = "180";
 
 /// The answer line of question 0.
 fn answer(data: &[u8]) -> Vec<u8> {
@@ -67,35 +67,53 @@ fn run(command: &[&str]) -> Option<Output> {
     Command::new(command[0]).args(&command[1..]).current_dir(FOLDER).output().ok()
 }
 
-/// The states that Spin's verifier stores, and its seconds.
-fn verified(model: &str) -> Option<(String, f64)> {
-    std::fs::write(format!("{FOLDER}/cuts.pml"), model).ok()?;
+/// The processor time of the processes started here that have ended, in seconds.
+fn ended() -> f64 {
+    extern "C" {
+        fn getrusage(who: i32, usage: *mut [i64; 18]) -> i32;
+    }
+    const CHILDREN: i32 = -1;
+    let mut usage = [0; 18];
+    assert_eq!(unsafe { getrusage(CHILDREN, &mut usage) }, 0);
+    (usage[0] + usage[2]) as f64 + (usage[1] + usage[3]) as f64 / 1e6
+}
+
+/// The states of the model that Spin's verifier stores, whether these are all, and its seconds.
+fn verified() -> Option<(String, bool, f64)> {
     run(&["spin", "-a", "cuts.pml"])?;
     run(&["cc", "-O2", "-DSAFETY", "-DMEMLIM=6000", "-o", "pan", "pan.c"])?;
-    let began = Instant::now();
+    let before = ended();
     let out = run(&["timeout", "-s", "INT", SECONDS, "./pan", "-m100000"])?;
-    let seconds = began.elapsed().as_secs_f64();
+    let seconds = ended() - before;
     let told = String::from_utf8_lossy(&out.stdout).into_owned();
-    let states = told.lines().find(|l| l.contains("states, stored"))?.split_whitespace().next()?;
+    let states = told.lines().find(|l| l.contains("states, stored"))?.split_whitespace().next()?.into();
     assert!(told.contains("errors: 0"), "Spin finds a moment");
-    let whole = !told.contains("Search not completed");
-    Some((format!("{states}{}", if whole { "" } else { ", not done" }), seconds))
+    Some((states, !told.contains("Search not completed"), seconds))
 }
 
 pub fn section() -> String {
-    let mut page = String::from(include_str!("spin.md"));
-    if run(&["spin", "-V"]).is_none() {
-        return page + "| Spin (Debian's package `spin`) was not installed | | | | | |\n";
+    let mut page = include_str!("spin.md").replace("SECONDS", SECONDS);
+    let installed = run(&["spin", "-V"]).is_some();
+    if !installed {
+        page += "Spin (Debian's package `spin`) was not installed when this page was made: its columns are empty.\n\n";
     }
+    page += &head("| stations | events | consistent cuts | Spin: states | Spin: seconds | proved: microseconds |".into());
     for (stations, events) in [(2, 32), (4, 32), (4, 64), (4, 127), (6, 64), (8, 64), (8, 127)] {
         let data = never_log(stations, events);
         let log = Log::read(&data).unwrap();
         let cuts = if listing::count(&log) <= 5_000_000 { listing::consistent(&log).len().to_string() } else { "-".into() };
-        let (states, seconds) = verified(&promela(&log)).unwrap_or(("none".into(), 0.0));
-        assert!(cuts == "-" || cuts == states, "Spin's states are not the consistent cuts");
+        std::fs::write(format!("{FOLDER}/cuts.pml"), promela(&log)).unwrap();
+        let spin = match installed.then(verified).flatten() {
+            None => "- | -".into(),
+            Some((states, false, seconds)) => format!("{states}, not done | {seconds:.2}"),
+            Some((states, true, seconds)) => {
+                assert!(cuts == "-" || cuts == states, "Spin's states are not the consistent cuts");
+                format!("{states} | {seconds:.2}")
+            }
+        };
         let (mut ws, mut bs, mut out) = (vec![1; WORKSPACE], vec![1; BARS], vec![1; LINE]);
         let ours = micros(|| (0..100).for_each(|_| _ = proved::answer(&data, 0, &mut ws, &mut bs, &mut out))) / 100.0;
-        writeln!(page, "| {stations} | {events} | {cuts} | {states} | {seconds:.2} | {ours:.0} |").unwrap();
+        writeln!(page, "| {stations} | {events} | {cuts} | {spin} | {ours:.0} |").unwrap();
     }
     page
 }

@@ -1,13 +1,34 @@
 //! The proved code, by its static library.
 
-extern "C" {
+/// What to do where the library was not there to be linked; else none.
+pub const MISSING: Option<&str> =
+    if cfg!(linked) { None } else { Some("target/staticlib/libexports.a is not there: run `rt staticlib exports`") };
+
+/// The library's calls. Without the library each ends the program.
+macro_rules! library {
+    ($(fn $name:ident($($argument:ident: $of:ty),*) -> u64;)*) => {
+        #[cfg(linked)]
+        extern "C" {
+            $(fn $name($($argument: $of),*) -> u64;)*
+        }
+        $(
+            #[cfg(not(linked))]
+            unsafe fn $name($(_: $of),*) -> u64 {
+                eprintln!("{}", MISSING.unwrap());
+                std::process::exit(2)
+            }
+        )*
+    };
+}
+
+library! {
     fn moment_read(log: *const u8, log_len: usize, out: *mut u8, out_len: usize) -> u64;
     fn moment_write(list: *const u8, list_len: usize, out: *mut u8, out_len: usize) -> u64;
     fn moment_answer(
-        log: *const u8, log_len: usize, question: usize, ws: *mut u8, ws_len: usize, bs: *mut u8, bs_len: usize, out: *mut u8, out_len: usize,
+        log: *const u8, log_len: usize, question: usize, ws: *mut u8, ws_len: usize, bs: *mut u8, bs_len: usize, out: *mut u8, out_len: usize
     ) -> u64;
     fn moment_holds(
-        log: *const u8, log_len: usize, question: usize, cut: *const u8, cut_len: usize, ws: *mut u8, ws_len: usize, bs: *mut u8, bs_len: usize,
+        log: *const u8, log_len: usize, question: usize, cut: *const u8, cut_len: usize, ws: *mut u8, ws_len: usize, bs: *mut u8, bs_len: usize
     ) -> u64;
 }
 
