@@ -2,6 +2,7 @@
 use crate::codes::{cells, head, names, PEERS};
 use crate::timed::{rounds, wide_log};
 use compare::log::line;
+use std::env::{current_exe, vars_os};
 use std::fmt::Write;
 use std::fs::{create_dir_all, write, File};
 use std::process::Command;
@@ -16,9 +17,11 @@ fn file(name: &str, log: &[u8]) -> String {
     path
 }
 
-/// What a program prints on a log, and what valgrind's tool tells of it.
+/// What a program prints on a log, and what valgrind's tool tells of it. The environment is bare, as a process's start depends on it.
 fn valgrind(words: &[&str], log: &str) -> (String, String) {
-    let out = Command::new("valgrind").args(words).stdin(File::open(log).unwrap()).output().expect("valgrind");
+    let mut command = Command::new("valgrind");
+    command.args(words).env_clear().envs(vars_os().filter(|(name, _)| name == "PATH"));
+    let out = command.stdin(File::open(log).unwrap()).output().expect("valgrind");
     assert!(out.status.success(), "{words:?} on {log}");
     (String::from_utf8(out.stdout).unwrap(), String::from_utf8_lossy(&out.stderr).into_owned())
 }
@@ -46,7 +49,7 @@ fn program(stations: usize, events: usize) -> Program {
     let (data, bare) = (wide_log(stations, events, 16), wide_log(stations, events, 0));
     let name = format!("{stations}x{events}");
     let (asked, unasked, empty) = (file(&name, &data), file(&(name + "-bare"), &bare), file("empty", b""));
-    let bench = std::env::current_exe().unwrap();
+    let bench = current_exe().unwrap();
     let (printed, proved) = instructions(&[PROGRAM], &asked);
     let peer = |name: &str| {
         let (line, count) = instructions(&[bench.to_str().unwrap(), "print", name], &asked);
