@@ -34,6 +34,15 @@ impl Structure {
     }
 }
 
+/// The most that was met: rounds of a start, structures of a basis, bars of a structure in it, and of the right one of a pair.
+#[derive(Default)]
+pub struct Most {
+    pub rounds: u32,
+    pub structures: usize,
+    pub bars: usize,
+    pub right: usize,
+}
+
 pub struct Worker<'a> {
     log: &'a Log,
     /// Where each station's rows begin, less one.
@@ -41,6 +50,7 @@ pub struct Worker<'a> {
     /// The empty cut and each event's clock.
     starts: Vec<Cut>,
     pub rounds: u32,
+    pub most: Most,
 }
 
 impl<'a> Worker<'a> {
@@ -51,7 +61,7 @@ impl<'a> Worker<'a> {
             offs[j] = starts.len() - 1;
             starts.extend(h[1..].iter().map(|e| e.clock));
         }
-        Worker { log, offs, starts, rounds: 0 }
+        Worker { log, offs, starts, rounds: 0, most: Most::default() }
     }
 
     /// The least cut of a set that contains c, or none. Every row contains row 0, which stands for a count of 0.
@@ -100,7 +110,9 @@ impl<'a> Worker<'a> {
             let (row, rounds) = self.start(&left.rows, &right.rows, self.starts[i]);
             rows.push(row);
             self.rounds += rounds;
+            self.most.rounds = self.most.rounds.max(rounds);
         }
+        self.most.right = self.most.right.max(right.bars.len());
         Structure { rows, bars: left.bars.iter().chain(&right.bars).copied().collect() }
     }
 
@@ -131,6 +143,8 @@ impl<'a> Worker<'a> {
             }
         }
         out.retain(|s| !s.dropped());
+        self.most.structures = self.most.structures.max(out.len());
+        self.most.bars = out.iter().map(|s| s.bars.len()).fold(self.most.bars, usize::max);
         out
     }
 

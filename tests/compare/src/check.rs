@@ -1,12 +1,14 @@
 //! One made-up log through all four operations, here and in the proved code.
 use crate::basis::Worker;
 use crate::draw::Draw;
+use crate::ends;
 use crate::fault::Refusal;
-use crate::formula::Tokens;
+use crate::formula::{self, Token, Tokens};
 use crate::listing;
 use crate::log::{Log, LIST, LOG};
 use crate::made::{self, Shape};
 use crate::operations::{self as here, answer_line, BARS, LINE, WORKSPACE};
+use crate::peak::{Peak, Peaks};
 use crate::proved::{self, Reply};
 use std::fmt::Debug;
 
@@ -26,17 +28,23 @@ fn shape(d: &mut Draw) -> Shape {
     Shape { stations, events, questions, ranges, step: d.pick(&[1, 1, 255, 21845]) }
 }
 
+/// Frames of any shape, damaged or not.
+fn drawn(d: &mut Draw) -> Vec<Vec<u8>> {
+    let s = shape(d);
+    let mut fs = made::frames(d, s);
+    for _ in 0..d.pick(&[0, 0, 0, 1, 1, 2]) {
+        if !fs.is_empty() {
+            made::damage(d, s, &mut fs);
+        }
+    }
+    fs
+}
+
 impl Case {
     pub fn new(seed: u64) -> Self {
         let mut draw = Draw(seed);
         let d = &mut draw;
-        let s = shape(d);
-        let mut fs = made::frames(d, s);
-        for _ in 0..d.pick(&[0, 0, 0, 1, 1, 2]) {
-            if !fs.is_empty() {
-                made::damage(d, s, &mut fs);
-            }
-        }
+        let fs = if d.below(50) == 0 { ends::frames(d) } else { drawn(d) };
         let (mut log, mut list) = (made::lines(&fs), made::list(&fs));
         if d.below(6) == 0 {
             made::spoil(d, LOG, &mut log);
@@ -81,16 +89,39 @@ impl Lent {
     }
 }
 
-/// What was seen: calls, accepted logs, Holds' no and yes, answers that list no, one and several cuts, and each fault.
+/// What was seen: calls, accepted logs, Holds' no and yes, answers that list no, one and several cuts, each fault, and peaks.
 pub struct Counts {
     pub calls: usize,
     pub accepted: usize,
     pub holds: [usize; 2],
     pub answers: [usize; 3],
     pub faults: [usize; 256],
+    pub peaks: Peaks,
 }
 
 impl Counts {
+    pub fn new() -> Self {
+        Counts { calls: 0, accepted: 0, holds: [0; 2], answers: [0; 3], faults: [0; 256], peaks: Peaks::default() }
+    }
+
+    fn meet_log(&mut self, log: &Log, bytes: usize) {
+        let station = log.history.iter().map(|h| h.len() - 1).max().unwrap_or(0);
+        self.accepted += 1;
+        self.peaks.meet(&[
+            (Peak::Stations, log.stations()), (Peak::Events, log.events), (Peak::StationEvents, station),
+            (Peak::Questions, log.questions.len()), (Peak::LogBytes, bytes), (Peak::ListBytes, log.list.len()),
+        ]);
+    }
+
+    fn meet_question(&mut self, f: &[Token], w: &Worker, listed: usize) {
+        let (width, bars) = formula::size(&mut Tokens(f), true).expect("a question that fits");
+        self.peaks.meet(&[
+            (Peak::Tokens, f.len()), (Peak::Ranges, formula::ranges(f)), (Peak::Width, width), (Peak::BarCount, bars),
+            (Peak::Structures, w.most.structures), (Peak::Bars, w.most.bars), (Peak::RightBars, w.most.right),
+            (Peak::StartRounds, w.most.rounds as usize), (Peak::Rounds, w.rounds as usize), (Peak::Listed, listed),
+        ]);
+    }
+
     /// Both replies are equal; hands back whether they accept.
     fn same<T: PartialEq + Debug>(&mut self, what: &str, proved: &Reply<T>, here: Result<T, Refusal>) -> bool {
         self.calls += 1;
@@ -100,6 +131,12 @@ impl Counts {
         assert_eq!(*proved, here.map_err(|Refusal(fault, line)| (fault.number(), line)), "{what}: proved and here");
         proved.is_ok()
     }
+}
+
+/// How many cuts an answer line lists.
+fn cuts_listed(line: &[u8]) -> usize {
+    let [high, low] = [line[4], line[5]].map(|b| (b as char).to_digit(16).expect("a digit") as usize);
+    high * 16 + low
 }
 
 /// The calls on one log, with the buffers that they are lent.
@@ -160,7 +197,7 @@ impl Calls<'_> {
         self.check_room(accepted);
         reply.ok().map(|n| {
             let line = self.line.bytes[..n].to_vec();
-            self.counts.answers[if &line[4..6] > b"01" { 2 } else { (line[5] - b'0') as usize }] += 1;
+            self.counts.answers[cuts_listed(&line).min(2)] += 1;
             line
         })
     }
@@ -187,15 +224,15 @@ impl Calls<'_> {
     }
 
     /// One question at every cut, against the plain listing; the rounds are those of the independent implementation.
-    fn listed(&mut self, log: &Log, q: usize, line: &[u8]) {
+    /// Where they are many, Holds is asked at one cut in so many.
+    fn listed(&mut self, log: &Log, q: usize, line: &[u8], rounds: u32) {
         let (f, n) = (&log.questions[q][..], log.stations());
         let cuts = listing::consistent(log);
         let truth = listing::truth(log, &cuts, &mut Tokens(f));
-        let mut worker = Worker::new(log);
-        worker.basis(&mut Tokens(f), true);
-        let expected = answer_line(truth[0], &listing::maximal(&cuts, &truth), n, worker.rounds);
+        let expected = answer_line(truth[0], &listing::maximal(&cuts, &truth), n, rounds);
         assert_eq!(line, expected, "question {q}: proved and listed");
-        for c in listing::all(log) {
+        let (all, step) = (listing::all(log), 1 + rounds as usize * cuts.len() / 400_000);
+        for c in all.into_iter().skip(self.draw.below(step)).step_by(step) {
             let expected = cuts.binary_search(&c).ok().map(|i| truth[i]);
             assert_eq!(self.holds(q, &c[..n], true), expected, "question {q} at {c:?}: proved and listed");
         }
@@ -221,12 +258,15 @@ pub fn compare(case: Case, counts: &mut Counts) {
     calls.read();
     calls.write(&list);
     let Ok(log) = Log::read(&data) else { return calls.odd(3, 3) };
-    calls.counts.accepted += 1;
+    calls.counts.meet_log(&log, data.len());
     calls.odd(log.questions.len(), log.stations());
-    for q in 0..log.questions.len() {
+    for (q, f) in log.questions.iter().enumerate() {
         let line = calls.answer(q, true).expect("an answer");
+        let mut worker = Worker::new(&log);
+        worker.basis(&mut Tokens(f), true);
+        calls.counts.meet_question(f, &worker, cuts_listed(&line));
         if listing::count(&log) <= 400 {
-            calls.listed(&log, q, &line);
+            calls.listed(&log, q, &line, worker.rounds);
         } else {
             calls.sampled(&log, q);
         }

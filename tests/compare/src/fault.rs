@@ -20,7 +20,8 @@ pub enum Fault {
     Question17,
     EmptyLog,
     HeaderLength = 0x50,
-    StationCount,
+    NoStation,
+    StationsOver8,
     EventLength = 0x60,
     EventStation,
     OwnEntry = 0x70,
@@ -47,9 +48,9 @@ pub enum Fault {
     LengthPastEnd,
 }
 
-pub const ALL: [Fault; 40] = [
+pub const ALL: [Fault; 41] = [
     LogOver8192, NoEndOfLine, OddDigits, NotADigit, LineUnder2, LineOver100, CheckByte, UnknownKind, NoHeader, SecondHeader,
-    EventAfterQuestion, Event128, Question17, EmptyLog, HeaderLength, StationCount, EventLength, EventStation, OwnEntry, EntryNotRead,
+    EventAfterQuestion, Event128, Question17, EmptyLog, HeaderLength, NoStation, StationsOver8, EventLength, EventStation, OwnEntry, EntryNotRead,
     ClockAbove, FormulaEnds, BytesAfterFormula, UnknownToken, FormulaStation, LoAboveHi, TokensOver32, RangesOver12, WidthOver16, BarsOver16,
     NoSuchQuestion, Workspace, BarSpace, Output, CutLength, NotConsistent, ListOver4096, LengthZero, LengthOver99, LengthPastEnd,
 ];

@@ -59,7 +59,7 @@ pub fn parse(mut q: &[u8], stations: usize) -> Result<Vec<Token>, Fault> {
 }
 
 /// Width and bar count as true or as false, each at most 16 at every token.
-fn size(f: &mut Tokens, sign: bool) -> Result<(usize, usize), Fault> {
+pub fn size(f: &mut Tokens, sign: bool) -> Result<(usize, usize), Fault> {
     let (width, bars) = match (f.take(), sign) {
         (Range { .. }, _) => (1, 0),
         (Not, _) => size(f, !sign)?,
@@ -83,12 +83,16 @@ fn size(f: &mut Tokens, sign: bool) -> Result<(usize, usize), Fault> {
     Ok((width, bars))
 }
 
+pub fn ranges(f: &[Token]) -> usize {
+    f.iter().filter(|t| matches!(t, Range { .. })).count()
+}
+
 /// The limits of tokens, ranges, width and bars.
 pub fn fits(f: &[Token]) -> Result<(), Fault> {
     if f.len() > 32 {
         return Err(Fault::TokensOver32);
     }
-    if f.iter().filter(|t| matches!(t, Range { .. })).count() > 12 {
+    if ranges(f) > 12 {
         return Err(Fault::RangesOver12);
     }
     size(&mut Tokens(f), true).map(drop)

@@ -2,10 +2,12 @@
 pub mod basis;
 pub mod check;
 pub mod draw;
+pub mod ends;
 pub mod fault;
 pub mod formula;
 pub mod listing;
 pub mod log;
 pub mod made;
 pub mod operations;
+pub mod peak;
 pub mod proved;

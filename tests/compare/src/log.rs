@@ -55,11 +55,14 @@ impl Log {
             return Err(Fault::SecondHeader);
         }
         let (&n, values) = f.split_first().ok_or(Fault::HeaderLength)?;
-        if n < 1 || n as usize > STATIONS {
-            return Err(Fault::StationCount);
-        }
         if values.len() != 2 * n as usize {
             return Err(Fault::HeaderLength);
+        }
+        if n < 1 {
+            return Err(Fault::NoStation);
+        }
+        if n as usize > STATIONS {
+            return Err(Fault::StationsOver8);
         }
         let initial = |v: &[u8]| vec![Event { value: u16::from_be_bytes([v[0], v[1]]), clock: [0; 8] }];
         self.history = values.chunks(2).map(initial).collect();

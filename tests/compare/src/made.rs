@@ -12,11 +12,11 @@ pub struct Shape {
     pub step: usize,
 }
 
-fn word(v: usize) -> [u8; 2] {
+pub fn word(v: usize) -> [u8; 2] {
     (v as u16).to_be_bytes()
 }
 
-fn range(d: &mut Draw, s: Shape) -> Vec<u8> {
+pub fn range(d: &mut Draw, s: Shape) -> Vec<u8> {
     let lo = d.below(4);
     let hi = lo + d.below(4 - lo);
     [vec![1, d.below(s.stations) as u8], word(lo * s.step).to_vec(), word(hi * s.step).to_vec()].concat()
@@ -73,18 +73,30 @@ pub fn header(d: &mut Draw, s: Shape) -> Vec<u8> {
     f
 }
 
+/// The clocks of the stations' last events.
+pub struct Clocks(Vec<Vec<u8>>);
+
+impl Clocks {
+    pub fn new(stations: usize) -> Self {
+        Clocks(vec![vec![0; stations]; stations])
+    }
+
+    /// The clock of the next event of station j, which has seen the last event of another; j itself stands for none.
+    pub fn next(&mut self, j: usize, other: usize) -> Vec<u8> {
+        let mut clock: Vec<u8> = self.0[j].iter().zip(&self.0[other]).map(|(x, y)| *x.max(y)).collect();
+        clock[j] = self.0[j][j] + 1;
+        self.0[j] = clock.clone();
+        clock
+    }
+}
+
 /// Events, each of which has seen the last event of another station with one chance in `apart`.
 pub fn events(d: &mut Draw, s: Shape, apart: usize) -> Vec<Vec<u8>> {
-    let mut last = vec![vec![0u8; s.stations]; s.stations];
+    let mut clocks = Clocks::new(s.stations);
     let event = |_| {
         let j = d.below(s.stations);
-        let mut clock = last[j].clone();
-        if d.below(apart) == 0 {
-            let other = d.below(s.stations);
-            clock.iter_mut().zip(&last[other]).for_each(|(x, y)| *x = (*x).max(*y));
-        }
-        clock[j] = last[j][j] + 1;
-        last[j] = clock.clone();
+        let other = if d.below(apart) == 0 { d.below(s.stations) } else { j };
+        let clock = clocks.next(j, other);
         [vec![0x20, j as u8], word(d.below(4) * s.step).to_vec(), clock].concat()
     };
     (0..s.events).map(event).collect()
