@@ -7,6 +7,21 @@ use compare::peak::WANTED;
 use std::panic::{catch_unwind, AssertUnwindSafe};
 use std::process::ExitCode;
 
+/// How many logs, and the first seed.
+fn asked(words: &[String]) -> Result<(u64, u64), String> {
+    let number = |i: usize, usual: u64| match words.get(i) {
+        None => Ok(usual),
+        Some(w) => w.parse().map_err(|_| format!("{w:?} is not a number from 0 to {}", u64::MAX)),
+    };
+    let (logs, first) = (number(0, 24_000)?, number(1, 20261115)?);
+    match words {
+        [_, _, more, ..] => Err(format!("one word too many: {more:?}")),
+        _ if logs == 0 => Err("0 logs compare nothing".to_string()),
+        _ if first.checked_add(logs).is_none() => Err(format!("{logs} logs from seed {first} on pass the largest seed")),
+        _ => Ok((logs, first)),
+    }
+}
+
 /// What was met too seldom for the run to say much: an outcome or a fault less than ten times in 4,000 logs, a peak less than once.
 fn seldom(logs: u64, counts: &Counts) -> Vec<String> {
     let [no, yes] = counts.holds;
@@ -32,8 +47,14 @@ fn report(logs: u64, counts: &Counts) {
 }
 
 fn main() -> ExitCode {
-    let mut args = std::env::args().skip(1).map(|a| a.parse::<u64>().expect("a number"));
-    let (logs, first) = (args.next().unwrap_or(24_000), args.next().unwrap_or(20261115));
+    let words: Vec<String> = std::env::args_os().skip(1).map(|w| w.to_string_lossy().into_owned()).collect();
+    let (logs, first) = match asked(&words) {
+        Ok(asked) => asked,
+        Err(why) => {
+            eprintln!("compare: {why} (usage: compare [LOGS] [SEED])");
+            return ExitCode::from(2);
+        }
+    };
     let mut counts = Counts::new();
     for seed in first..first + logs {
         if catch_unwind(AssertUnwindSafe(|| compare(Case::new(seed), &mut counts))).is_err() {
