@@ -3,14 +3,14 @@
 
 Usage: corpus.py FOLDER [LOGS] [SEED]      writes FOLDER/stdin and FOLDER/stdout; the same arguments give the same bytes
 Logs have 1 to 4 stations, up to 8 events and questions nested up to 5 deep; about two in five are damaged in a way that document 01
-names. Each log, and each output, is closed by a line with a full stop; the last log has no end of line and so none.
+names. Some more meet its limits: 16 cuts, structures and bars, over 65,535 rounds, 65 rounds a start, 0 and 9 stations. Each log, and each output, is closed by a line with a full stop; the last log has no end of line and so none.
 """
 import pathlib
 import sys
 
 from listing import encode, printed
 
-LOGS, EDGES, SEED = 4600, 80, 20261115
+LOGS, EDGES, ENDS, SEED = 4600, 80, 12, 20261115
 
 
 class Draw:
@@ -181,19 +181,70 @@ def edges(d):
         yield lowered(d, b"".join(map(encode, fs)))
 
 
+def joined(d, token, parts):
+    """Formulas joined by one token, left before right, in a tree of any form."""
+    if len(parts) == 1:
+        return parts[0]
+    k = 1 + d.below(len(parts) - 1)
+    return [token] + joined(d, token, parts[:k]) + joined(d, token, parts[k:])
+
+
+def sixteen(d, kind):
+    """16 moments of eight stations, one of each group still at its first value; or such a moment ruled out by the last of 16 bars."""
+    stations = list(range(8))
+    group = lambda k: [[1, stations.pop(d.below(len(stations))), 0, 0, 0, 0] for _ in range(k)]
+    groups = [group(k) for k in d.pick([(2, 2, 2, 2), (4, 4), (4, 2, 2), (2, 4, 2)])]
+    moments = joined(d, 3, [joined(d, 4, g) for g in groups])
+    barred, last = d.pick([[6, 2], [2, 5]]) + moments, joined(d, 3, [g[-1] for g in groups])
+    return [d.pick([[], [5]]) + moments, [3] + barred + last, [3] + last + barred][kind]
+
+
+def apart(d, kind):
+    """Eight stations that leave their first value, each by itself."""
+    out = [[0x10, 8] + [0, 0] * 8]
+    for s in range(8):
+        out.append([0x20, s] + word(1 + d.below(65535)) + [int(j == s) for j in range(8)])
+    return out + [[0x30] + sixteen(d, kind)]
+
+
+def turns(d):
+    """A station that changes sides with each of 127 events, and a question about both: each of 16 pairs takes over 4,000 rounds."""
+    step, last = d.pick([1, 255, 21845]), 1 + d.below(2)
+    side = lambda v: [1, 0] + word(v * step) + word(v * step + step)
+    values = [k % 2 * 2 * step for k in range(127)] + [last * step]
+    out = [[0x10, 1, 0, 0]] + [[0x20, 0] + word(v) + [k] for k, v in enumerate(values) if k > 0]
+    q = [3] + joined(d, 4, [side(0)] * 4) + joined(d, 4, [side(1)] * 4)
+    for _ in range(d.below(5)):
+        q = d.pick([[3] + q + side(d.below(2)), [3] + side(d.below(2)) + q])
+    return out + [[0x30] + q]
+
+
+def miscounted(d, n):
+    """A good header but for its station count, 0 or 9; half have a question that is good with one station or more."""
+    return [[0x10, n] + [0, d.below(4)] * n] + [[0x30] + atom(d, 1, 4)] * d.below(2)
+
+
+def ends(d):
+    """Logs at the upper ends of document 01's limits."""
+    for _ in range(ENDS):
+        for fs in [apart(d, 0), apart(d, 1), apart(d, 2), turns(d), miscounted(d, 0), miscounted(d, 9)]:
+            yield b"".join(map(encode, fs))
+
+
 def logs(count, seed):
     d = Draw(seed)
     yield b""
     yield b"\n"
     yield b"0" * 8192 + b"\n"
     yield encode([0x10, 1, 0, 0]) * 3
-    for _ in range(count - 5 - 3 * EDGES):
+    for _ in range(count - 5 - 3 * EDGES - 6 * ENDS):
         fs, way = frames(d), d.below(10)
         if way < 3:
             fs = damaged(d, fs)
         log = b"".join(map(encode, fs))
         yield spoiled(d, log) if way == 9 else log
     yield from edges(d)
+    yield from ends(d)
     yield encode([0x10, 1, 0, 0])[:-1]
 
 

@@ -3,6 +3,7 @@
 A log is read with the refusals of document 01 in its order. A set of cuts is the list of its cuts, so raising a cut is a search
 through that list; rounds are counted over such sets.
 """
+from functools import cache
 from itertools import product
 
 STATIONS, EVENTS, QUESTIONS, LOG, LIST = 8, 127, 16, 8192, 4096
@@ -211,11 +212,12 @@ class Listing(Walk):
         return [] if any(contained(top, b) for b in bars) else [(cuts, bars, top)]
 
     def pair(self, left, right):
+        first, second = (cache(lambda c, cuts=cuts: self.raised(cuts, c)) for cuts, _, _ in (left, right))
         for c in self.starts:
             while True:
                 self.rounds += 1
-                d = self.raised(left[0], c)
-                d = d and self.raised(right[0], d)
+                d = first(c)
+                d = d and second(d)
                 if d is None or d == c:
                     break
                 c = d
