@@ -43,8 +43,8 @@ fn holds_case(question: usize, cut: &[u8], ws: &mut [u8], bs: &mut [u8], log: &[
 // Runs the program on the log.
 fn print_case(log: &[u8]) {
     io::write_all(1, b"P\n");
-    let mut out = [0u8; 4368];
-    let m = finder::run(log, &mut out);
+    let mut out = [0u8; finder::PRINTED];
+    let m = finder::print_log(log, &mut out);
     io::write_all(1, &out[..m]);
 }
 

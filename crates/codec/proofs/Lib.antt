@@ -16,3 +16,4 @@ pub mod RoundTrip
 pub mod Operations
 pub mod Demands
 pub mod Printed
+pub mod Input

@@ -2,8 +2,8 @@
 
 // Prints the program's answer to one log, and a line with a full stop.
 fn answer(log: &[u8]) {
-    let mut out = [0u8; 4368];
-    let m = finder::run(log, &mut out);
+    let mut out = [0u8; finder::PRINTED];
+    let m = finder::print_log(log, &mut out);
     io::write_all(1, &out[..m]);
     io::write_all(1, b".\n");
 }

@@ -1,6 +1,7 @@
--- Answer lines written one behind the other are those of the questions so far.
+-- Answer lines written one behind the other are those of the questions so far; what is printed for a log, and for a file.
 use mathlib.Core.Path.{_≡_, refl, sym, ap, subst, _∙_}
 use mathlib.Core.List.{List, [], _∷_, _++_, append-nil, append-assoc}
+use mathlib.Core.Logic.{_⊎_, inl, inr}
 use mathlib.Core.Option.{some}
 use Prim.Native.Nat.{ℕ, zero, suc, _+_, _-_, _≤_, _<_}
 use native.Mathlib.Omega.{arith}
@@ -13,8 +14,9 @@ use Rattle.model.specs.Formula.{Formula}
 use Rattle.model.specs.Computation.{Computation}
 use Rattle.model.specs.Answer.{answer, answerLine, refusalLine}
 use Rattle.model.specs.Reading.{Reading, refused, accepted, readLog}
-use Rattle.model.specs.Operations.{answerLines, printedOf, printed}
+use Rattle.model.specs.Operations.{answerLines, printedOf, inputSize, printed}
 use Rattle.codec.proofs.Demands.{asked-line-fits}
+use Rattle.codec.proofs.Input.{printed-first}
 use Rattle.frame.specs.declared.State.{State}
 use Rattle.structure.proofs.Parts.{put-end}
 use Rattle.report.specs.Written.{Written}
@@ -103,3 +105,20 @@ printed-lines log r e = rw e
 pub printed-refusal : (log : List ℕ) (k n : ℕ) → readLog limits log ≡ refused k n → (x : ℕ) → x ≡ k → refusalLine x n ≡ printed log
 unfolding printed printedOf
 printed-refusal log k n e x same = rw (e, same)
+
+-- WHAT IS PRINTED FOR A FILE
+
+-- More bytes than there are count as all of them.
+pub take-most : (l : List ℕ) (n m : ℕ) → (n ≡ m) ⊎ ((length l ≤ n) × (length l ≤ m)) → take n l ≡ take m l
+take-most l n m (inl e) = ap (λ (k : ℕ). take k l) e
+take-most l n m (inr h) = take-all n l (h .0) ∙ sym (take-all m l (h .1))
+
+-- What is printed for the bytes got is printed for each file whose first bytes they are, as many as there is room for.
+pub printed-file : (input was out : List ℕ) (got n r : ℕ) → inputSize ≤ length input → take n input ≡ take got input
+    → ((r ≡ length (printed (take n input))) × (r ≤ length out)) × (out ≡ printed (take n input) ++ drop r was)
+    → ((r ≡ length (printed (take got input))) × (r ≤ length out))
+    × ((out ≡ printed (take got input) ++ drop r was) × ((file : List ℕ) → take got input ≡ take (length input) file → (r ≡ length (printed file)) × (out ≡ printed file ++ drop r was)))
+printed-file input was out got n r long same p =
+    let q = subst (λ l. ((r ≡ length (printed l)) × (r ≤ length out)) × (out ≡ printed l ++ drop r was)) same p in
+    let all : (file : List ℕ) → take got input ≡ take (length input) file → printed (take got input) ≡ printed file = λ file e. ap printed e ∙ printed-first (length input) file long in
+    (q .0, (q .1, λ file e. (q .0 .0 ∙ ap length (all file e), q .1 ∙ ap (λ (l : List ℕ). l ++ drop r was) (all file e))))

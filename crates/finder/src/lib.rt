@@ -25,8 +25,11 @@ pub const BARSPACE: usize = 8192;
 
 pub const LINE: usize = 273;
 
+// What the program asks for: one byte more than a log may have, so that it sees a log that is too long.
+pub const INPUT: usize = model::Log::BYTES + 1;
+
 // The most that is printed: an answer line for each question.
-pub const PRINTED: usize = 4368;
+pub const PRINTED: usize = model::Log::QUESTIONS * LINE;
 
 // Is the workspace or the bar space too small, by their sizes?
 fn cramped(ws: usize, bs: usize) -> bool
@@ -238,7 +241,7 @@ fn print_loaded(list: &[u8], k: usize, table: &[u8], s: frame::State, out: &mut 
 }
 
 // What is printed for a log, at the front of `out`; hands back its length.
-pub fn run(log: &[u8], out: &mut [u8; PRINTED]) -> usize
+pub fn print_log(log: &[u8], out: &mut [u8; PRINTED]) -> usize
     ensures { λ r. ⌜ (r ≡ length (printed (now (log .entry)))) × (r ≤ length (now (out .exit))) ⌝ }
     ensures { λ r. ⌜ now (out .exit) ≡ printed (now (log .entry)) ++ drop r (now (out .entry)) ⌝ }
 {
@@ -256,4 +259,16 @@ pub fn run(log: &[u8], out: &mut [u8; PRINTED]) -> usize
             print_loaded(&list, loaded.length, &table, s, out)
         }
     }
+}
+
+// What is printed for a file, at the front of `out`; hands back its length. The first `got` bytes of `input` are the file's, all of
+// them or as many as `input` holds.
+pub fn run(input: &[u8; INPUT], got: usize, out: &mut [u8; PRINTED]) -> usize
+    ensures { λ r. ⌜ (r ≡ length (printed (take got (now (input .entry))))) × (r ≤ length (now (out .exit))) ⌝ }
+    ensures { λ r. ⌜ now (out .exit) ≡ printed (take got (now (input .entry))) ++ drop r (now (out .entry)) ⌝ }
+    ensures { λ r. ⌜ ((file : List ℕ) → take got (now (input .entry)) ≡ take (length (now (input .entry))) file → (r ≡ length (printed file)) × (now (out .exit) ≡ printed file ++ drop r (now (out .entry)))) ⌝ }
+{
+    let n = if got < INPUT { got } else { INPUT };
+    let all: &[u8] = input;
+    print_log(&all[..n], out)
 }

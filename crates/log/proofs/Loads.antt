@@ -4,7 +4,7 @@ use mathlib.Core.List.{List, [], _∷_, _++_, append-assoc, append-nil}
 use Prim.Native.Nat.{ℕ, _+_, _-_, _<_, _≤_}
 use native.Mathlib.Omega.{arith}
 use native.Mathlib.Numerals.{add-one}
-use borrow.Author.Tests.{le-leb, lt-leb}
+use borrow.Author.Tests.{le-leb}
 use lib.ListN.{length, take, drop}
 use lib.Seq.{length-take-le}
 use Rattle.model.specs.Limits.{limits}
@@ -189,10 +189,6 @@ sofar-first list t e = record { reading = nothing; is = e; holds = holds-nothing
 pub read-items : (log : List ℕ) → length log ≤ 8192 → readLog limits log ≡ readItems limits 1 nothing (items (linesOf log))
 unfolding readLog
 read-items log h = rw (le-leb (length log) 8192 h)
-
-pub read-long : (log : List ℕ) → 8192 < length log → readLog limits log ≡ refused 1 0
-unfolding readLog
-read-long log h = rw (lt-leb (length log) 8192 h)
 
 pub within-first : (log : List ℕ) → Within log first
 within-first log = record { bounded = bounded-fresh; inside = omega arith; half = omega arith; low = omega arith }

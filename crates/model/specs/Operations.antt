@@ -1,6 +1,6 @@
 -- The four operations and the program: what each hands back and leaves in what is lent to it.
 use mathlib.Core.Path.{_≡_}
-use Prim.Native.Nat.{ℕ}
+use Prim.Native.Nat.{ℕ, suc}
 use mathlib.Core.Bool.{Bool, cond, _||_}
 use mathlib.Core.List.{List, [], _∷_, _++_}
 use mathlib.Core.Option.{Option, none, some}
@@ -100,6 +100,10 @@ answerLines K (f ∷ l) = answerLine (answer K f) ++ answerLines K l
 unfoldable pub printedOf : Result → List ℕ
 printedOf (refused k n) = refusalLine k n
 printedOf (accepted r) = answerLines (r .computation) (r .questions)
+
+-- What the program asks for: one byte more than a log may have, so that it sees a log that is too long.
+abbrev pub inputSize : ℕ
+inputSize = suc (limits .bytes)
 
 -- What is printed for the standard input.
 unfoldable pub printed : List ℕ → List ℕ

@@ -1,4 +1,4 @@
--- `bench_cases::print_case`: what is written is a part of what `run` filled. Assumes nothing.
+-- `bench_cases::print_case`: what is written is a part of what `print_log` filled. Assumes nothing.
 use mathlib.Core.Path.{sym}
 use lib.Seq.{length-take-le}
 use borrow.Author.Needs.{needs}
@@ -11,14 +11,14 @@ slice-aggregate-write-all c = search needs
 write-all-requires : tie.Need-write-all-requires
 write-all-requires c κs = search needs
 
-run-requires : tie.Need-run-requires
-run-requires c κs = search needs
+print-log-requires : tie.Need-print-log-requires
+print-log-requires c κs = search needs
 
 array-share-prefix-out : tie.Need-array-share-prefix-out
 array-share-prefix-out c = search needs
 
 slice-aggregate-write-all-2 : tie.Need-slice-aggregate-write-all-2
-slice-aggregate-write-all-2 c = sym (length-take-le _ _ (c .before .run .ensures .0 .1))
+slice-aggregate-write-all-2 c = sym (length-take-le _ _ (c .before .print-log .ensures .0 .1))
 
 write-all-requires-2 : tie.Need-write-all-requires-2
 write-all-requires-2 c κs = search needs
@@ -32,7 +32,7 @@ print-case-spec =
     (tie.spec
     slice-aggregate-write-all
     write-all-requires
-    run-requires
+    print-log-requires
     array-share-prefix-out
     slice-aggregate-write-all-2
     write-all-requires-2

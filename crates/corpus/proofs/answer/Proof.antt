@@ -1,18 +1,18 @@
--- `corpus::answer`: what is written is a part of what `run` filled. Assumes nothing.
+-- `corpus::answer`: what is written is a part of what `print_log` filled. Assumes nothing.
 use mathlib.Core.Path.{sym}
 use lib.Seq.{length-take-le}
 use borrow.Author.Needs.{needs}
 use Rattle.corpus.proofs.answer.Statement.{statement}
 use Rattle.corpus.proofs.answer.Tie as tie
 
-run-requires : tie.Need-run-requires
-run-requires c κs = search needs
+print-log-requires : tie.Need-print-log-requires
+print-log-requires c κs = search needs
 
 array-share-prefix-out : tie.Need-array-share-prefix-out
 array-share-prefix-out c = search needs
 
 slice-aggregate-write-all : tie.Need-slice-aggregate-write-all
-slice-aggregate-write-all c = sym (length-take-le _ _ (c .before .run .ensures .0 .1))
+slice-aggregate-write-all c = sym (length-take-le _ _ (c .before .print-log .ensures .0 .1))
 
 write-all-requires : tie.Need-write-all-requires
 write-all-requires c κs = search needs
@@ -30,7 +30,7 @@ pub answer-spec : {M : Type 1} → statement M
 answer-spec =
     tie.close
     (tie.spec
-    run-requires
+    print-log-requires
     array-share-prefix-out
     slice-aggregate-write-all
     write-all-requires

@@ -1,70 +1,25 @@
--- `run` meets its contract: one refusal line, or the lines to all questions. Assumes nothing.
+-- `run` meets its contract: the array holds more than a log may have, so the bytes got tell what is printed for the whole file. Assumes nothing.
+use mathlib.Core.Path.{sym}
+use mathlib.Core.Logic.{⊎-elim, inl, inr}
 use native.Mathlib.Omega.{arith}
 use borrow.Author.Needs.{needs}
-use Rattle.finder.proofs.Lines.{refused-line}
-use Rattle.finder.proofs.Logs.{to-accepts, to-refused}
-use Rattle.finder.proofs.Printed.{printed-so, printed-lines, printed-refusal}
+use lib.Seq.{length-take-le}
+use Rattle.finder.proofs.Printed.{take-most, printed-file}
 use Rattle.finder.proofs.run.Statement.{statement}
 use Rattle.finder.proofs.run.Tie as tie
 
-slice-aggregate-load : tie.Need-slice-aggregate-load
-slice-aggregate-load c = search needs
+slice-aggregate-print-log : tie.Need-slice-aggregate-print-log
+slice-aggregate-print-log c = sym (length-take-le _ _ (⊎-elim (λ w. omega arith) (λ w. omega arith) (c .before .before .if1 .came)))
 
-slice-aggregate-load-2 : tie.Need-slice-aggregate-load-2
-slice-aggregate-load-2 c = search needs
-
-load-requires : tie.Need-load-requires
-load-requires c κs = search needs
-
-enum-known-outcome : tie.Need-enum-known-outcome
-enum-known-outcome c = search needs
-
-number-requires : tie.Need-number-requires
-number-requires c κs = search needs
-
-put-refusal-requires : tie.Need-put-refusal-requires
-put-refusal-requires c κs =
-    let e = to-refused _ _ _ _ _ _ (c .before .before .before .before .before .before .before .load .ensures) _ (c .before .before .before .outcome .given .1) in
-    (omega (arith, refused-line _ _ _ e), search needs)
-
-enum-told : tie.Need-enum-told
-enum-told c = search needs
-
-slice-aggregate-print-loaded : tie.Need-slice-aggregate-print-loaded
-slice-aggregate-print-loaded c = search needs
-
-slice-aggregate-print-loaded-2 : tie.Need-slice-aggregate-print-loaded-2
-slice-aggregate-print-loaded-2 c = search needs
-
-print-loaded-requires : tie.Need-print-loaded-requires
-print-loaded-requires c κs =
-    let l = c .before .before .before .before .before .before .before .before .load in
-    let a = to-accepts _ _ _ _ _ _ (l .ensures) (c .before .before .before .before .enum-told .given .1) in
-    ((omega (arith, a .short, l .kept), omega (arith, l .kept), search needs), (_, a))
+print-log-requires : tie.Need-print-log-requires
+print-log-requires c κs = search needs
 
 returns : tie.Need-returns
 returns c =
-    let e = to-refused _ _ _ _ _ _ (c .before .before .before .before .before .before .before .before .load .ensures) _ (c .before .before .before .before .outcome .given .1) in
-    printed-so (printed-refusal _ _ _ e _ (c .before .before .number .ensures)) (c .put-refusal .ensures)
-
-returns-2 : tie.Need-returns-2
-returns-2 c =
-    let a = to-accepts _ _ _ _ _ _ (c .before .before .before .before .before .before .before .before .before .load .ensures) (c .before .before .before .before .before .enum-told .given .1) in
-    printed-so (printed-lines _ (a .reading) (a .is)) (c .print-loaded .ensures _ a)
+    let b = c .before .before .before .before in
+    let a = b .before .args in
+    let same = take-most (a .input .now) (b .if1 .n) (a .got) (⊎-elim (λ w. inl (w .1)) (λ w. inr (omega arith, omega arith)) (b .if1 .came)) in
+    printed-file (a .input .now) (a .out .now) (c .print-log .last .1 .0) (a .got) (b .if1 .n) _ (omega arith) same (c .print-log .ensures)
 
 pub run-spec : {M : Type 1} → statement M
-run-spec =
-    tie.close
-    (tie.spec
-    slice-aggregate-load
-    slice-aggregate-load-2
-    load-requires
-    enum-known-outcome
-    number-requires
-    put-refusal-requires
-    enum-told
-    slice-aggregate-print-loaded
-    slice-aggregate-print-loaded-2
-    print-loaded-requires
-    returns
-    returns-2)
+run-spec = tie.close (tie.spec slice-aggregate-print-log print-log-requires returns)

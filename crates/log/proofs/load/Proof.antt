@@ -1,6 +1,7 @@
 -- A log that is too long is refused by the first test of the definition; any other goes to `load_lines`. Assumes nothing.
 use Rattle.model.specs.declared.Fault.the-variants.{LongLog}
-use Rattle.log.proofs.Loads.{read-long, loads-refusal}
+use Rattle.codec.proofs.Input.{read-long}
+use Rattle.log.proofs.Loads.{loads-refusal}
 use borrow.Author.Needs.{needs}
 use Rattle.log.proofs.load.Statement.{statement}
 use Rattle.log.proofs.load.Tie as tie
