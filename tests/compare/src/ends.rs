@@ -113,16 +113,15 @@ fn both_sides(d: &mut Draw, stations: usize, station: usize, step: usize) -> Vec
 /// A station that changes sides with each event: a start adds two events a round, and goes on to the last.
 fn turns(d: &mut Draw) -> Frames {
     let (stations, step) = (d.pick(&[1, 1, 2, 3]), d.pick(&[1, 255, 21845]));
-    let (j, side, last) = (d.below(stations), d.pick(&[0, 0, 0, 1]), d.pick(&[1, 0, 0]));
+    let (j, side, both_at_last) = (d.below(stations), d.pick(&[0, 0, 0, 1]), d.pick(&[true, false, false]));
     let elsewhere = if stations == 1 { 0 } else { d.below(3) };
     let (mut clocks, mut fs) = (Clocks::new(stations), vec![[0x10, stations as u8].to_vec()]);
     (0..stations).for_each(|_| fs[0].extend(word(2 * side * step)));
     for k in 1..=127 {
-        let own = k > elsewhere;
-        let i = if own { j } else { d.below(stations) };
+        let i = if k > elsewhere { j } else { d.below(stations) };
         let other = if d.below(8) == 0 { d.below(stations) } else { i };
         let clock = clocks.next(i, other);
-        let value = if k == 127 && last == 1 { 1 } else { 2 * ((side + clock[i] as usize) % 2) };
+        let value = if k == 127 && both_at_last { 1 } else { 2 * ((side + clock[i] as usize) % 2) };
         fs.push([vec![0x20, i as u8], word(value * step).to_vec(), clock].concat());
     }
     fs.push([vec![0x30], both_sides(d, stations, j, step)].concat());
@@ -141,14 +140,17 @@ fn grown(d: &mut Draw, s: Shape, ranges: usize, single: usize) -> Vec<u8> {
     [vec![d.pick(&[3, 4])], grown(d, s, left, few), grown(d, s, ranges - left, single - few)].concat()
 }
 
-/// A question of 32 tokens, 12 of them ranges, that is within the limits of width and bars.
+/// A question of 32 tokens, 12 of them ranges, the first of many that is within the limits of width and bars.
 fn longest(d: &mut Draw, s: Shape) -> Vec<u8> {
-    loop {
-        let q = grown(d, s, 12, 9);
-        if parse(&q, s.stations).is_ok_and(|f| fits(&f).is_ok()) {
-            return [vec![0x30], q].concat();
+    let fitting = |q: &[u8]| parse(q, s.stations).is_ok_and(|f| fits(&f).is_ok());
+    let mut q = grown(d, s, 12, 9);
+    for _ in 0..1000 {
+        if fitting(&q) {
+            break;
         }
+        q = grown(d, s, 12, 9);
     }
+    [vec![0x30], q].concat()
 }
 
 /// The longest log that there is.
