@@ -101,10 +101,12 @@ pub fn answer(
             if s.questions <= question {
                 return line_refused(model::Fault::NoQuestion);
             }
-            if cramped(ws.len(), bs.len()) {
+            let tight = cramped(ws.len(), bs.len());
+            let short = out.len() < LINE;
+            if tight {
                 return line_refused(model::Fault::Workspace);
             }
-            if out.len() < LINE {
+            if short {
                 return line_refused(model::Fault::Output);
             }
             let size = answer_loaded(&list, loaded.length, &table, s, question, ws, bs, out);
@@ -173,10 +175,12 @@ pub fn holds(
                 return holds_refused(model::Fault::NoQuestion);
             }
             let counts = s.counts;
-            if !layout::consistent::consistent(cut, &table, s.stations, &counts) {
+            let inside = layout::consistent::consistent(cut, &table, s.stations, &counts);
+            let small = cramped(ws.len(), bs.len());
+            if !inside {
                 return holds_refused(model::Fault::Cut);
             }
-            if cramped(ws.len(), bs.len()) {
+            if small {
                 return holds_refused(model::Fault::Workspace);
             }
             let yes = holds_loaded(&list, loaded.length, &table, s, question, cut, ws, bs);

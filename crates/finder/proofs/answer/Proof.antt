@@ -2,6 +2,7 @@
 use mathlib.Core.Path.{refl, sym, _∙_}
 use native.Mathlib.Omega.{arith}
 use borrow.Author.Needs.{needs}
+use borrow.Author.Tests.{ltb-true, ltb-false}
 use Rattle.finder.proofs.Logs.{to-accepts, to-refused, question-count, question-there}
 use Rattle.finder.proofs.Replies.{roomy, answer-refused, answer-none, answer-cramped, answer-short, answer-line, met-refused, met-written}
 use Rattle.finder.proofs.answer.Statement.{statement}
@@ -49,7 +50,7 @@ returns-3 : tie.Need-returns-3
 returns-3 c =
     let a = to-accepts _ _ _ _ _ _ (c .before .before .before .before .before .before .before .before .before .before .before .load .ensures) (c .before .before .before .before .before .before .before .enum-told .given .1) in
     let f = question-there (a .reading .questions) (c .before .before .before .before .before .before .before .before .before .before .before .before .before .before .before .before .before .before .args .question) (omega (arith, question-count a, c .before .before .before .before .if1 .left)) in
-    met-refused _ _ _ _ _ _ 12 0 (c .line-refused3 .ensures) (answer-short _ _ _ _ _ (a .reading) (a .is) (f .0) (f .1) (sym (c .before .before .before .cramped .ensures) ∙ c .before .before .if2 .left) (c .before .if3 .taken))
+    met-refused _ _ _ _ _ _ 12 0 (c .line-refused3 .ensures) (answer-short _ _ _ _ _ (a .reading) (a .is) (f .0) (f .1) (sym (c .before .before .before .cramped .ensures) ∙ c .before .before .if2 .left) (ltb-true _ _ (c .before .if3 .taken)))
 
 slice-aggregate-answer-loaded : tie.Need-slice-aggregate-answer-loaded
 slice-aggregate-answer-loaded c = search needs
@@ -62,7 +63,7 @@ answer-loaded-requires c κs =
     let l = c .before .before .before .before .before .before .before .before .before .before .before .before .before .before .before .load in
     let a = to-accepts _ _ _ _ _ _ (l .ensures) (c .before .before .before .before .before .before .before .before .before .before .before .enum-told .given .1) in
     let room = roomy _ _ (sym (c .before .before .before .before .before .before .before .cramped .ensures) ∙ c .before .before .before .before .before .before .if2 .left) in
-    ((c .before .before .before .before .before .before .before .before .if1 .left, omega (arith, a .short, l .kept), omega (arith, l .kept), room .0, room .1, c .before .before .before .before .before .if3 .left), (_, a))
+    ((c .before .before .before .before .before .before .before .before .if1 .left, omega (arith, a .short, l .kept), omega (arith, l .kept), room .0, room .1, ltb-false _ _ (c .before .before .before .before .before .if3 .left)), (_, a))
 
 returns-4 : tie.Need-returns-4
 returns-4 c = met-refused _ _ _ _ _ _ _ _ refl (answer-refused _ _ _ _ _ _ _ (to-refused _ _ _ _ _ _ (c .before .before .before .before .before .load .ensures) _ (c .before .outcome .given .1)))
@@ -80,7 +81,7 @@ returns-5 : tie.Need-returns-5
 returns-5 c =
     let a = to-accepts _ _ _ _ _ _ (c .before .before .before .before .before .before .before .before .before .before .before .before .before .before .before .before .before .before .before .before .before .before .load .ensures) (c .before .before .before .before .before .before .before .before .before .before .before .before .before .before .before .before .before .before .enum-told .given .1) in
     let f = question-there (a .reading .questions) (c .before .before .before .before .before .before .before .before .before .before .before .before .before .before .before .before .before .before .before .before .before .before .before .before .before .before .before .before .before .args .question) (omega (arith, question-count a, c .before .before .before .before .before .before .before .before .before .before .before .before .before .before .before .if1 .left)) in
-    met-written _ _ (c .before .before .before .before .before .before .before .before .before .before .before .before .before .before .before .before .before .before .before .before .before .before .before .before .before .before .before .before .before .args .ws .now) (c .before .before .before .before .before .before .before .before .before .before .before .before .before .before .before .before .before .before .before .before .before .before .before .before .before .before .before .before .before .args .bs .now) _ _ (answer-line _ _ _ _ _ (a .reading) (a .is) (f .0) (f .1) (sym (c .before .before .before .before .before .before .before .before .before .before .before .before .before .before .cramped .ensures) ∙ c .before .before .before .before .before .before .before .before .before .before .before .before .before .if2 .left) (c .before .before .before .before .before .before .before .before .before .before .before .before .if3 .left)) _ _ (c .before .before .before .before .before .before .answer-loaded .ensures _ a (f .0) (f .1))
+    met-written _ _ (c .before .before .before .before .before .before .before .before .before .before .before .before .before .before .before .before .before .before .before .before .before .before .before .before .before .before .before .before .before .args .ws .now) (c .before .before .before .before .before .before .before .before .before .before .before .before .before .before .before .before .before .before .before .before .before .before .before .before .before .before .before .before .before .args .bs .now) _ _ (answer-line _ _ _ _ _ (a .reading) (a .is) (f .0) (f .1) (sym (c .before .before .before .before .before .before .before .before .before .before .before .before .before .before .cramped .ensures) ∙ c .before .before .before .before .before .before .before .before .before .before .before .before .before .if2 .left) (ltb-false _ _ (c .before .before .before .before .before .before .before .before .before .before .before .before .if3 .left))) _ _ (c .before .before .before .before .before .before .answer-loaded .ensures _ a (f .0) (f .1))
 
 pub answer-spec : {M : Type 1} → statement M
 answer-spec =

@@ -40,17 +40,17 @@ consistent-requires c κs =
     let a = to-accepts _ _ _ _ _ _ (l .ensures) (c .before .before .before .before .before .before .enum-told .given .1) in
     ((a .bounded .few-stations, omega (arith, l .kept)), λ i. omega (arith, a .bounded .each i, a .bounded .few-events))
 
+cramped-requires : tie.Need-cramped-requires
+cramped-requires c κs = search needs
+
 holds-refused-requires-2 : tie.Need-holds-refused-requires-2
 holds-refused-requires-2 c κs = search needs
 
 returns-2 : tie.Need-returns-2
 returns-2 c =
-    let a = to-accepts _ _ _ _ _ _ (c .before .before .before .before .before .before .before .before .before .before .before .before .before .load .ensures) (c .before .before .before .before .before .before .before .before .before .enum-told .given .1) in
-    let f = question-there (a .reading .questions) (c .before .before .before .before .before .before .before .before .before .before .before .before .before .before .before .before .before .before .before .before .args .question) (omega (arith, question-count a, c .before .before .before .before .before .before .if1 .left)) in
-    told-refused _ _ _ _ _ _ 13 0 (c .holds-refused2 .ensures) (holds-inconsistent _ _ _ _ _ (a .reading) (a .is) (f .0) (f .1) (sym (c .before .before .consistent .ensures _ (a .holds .stored)) ∙ not-true _ (c .before .if2 .taken)))
-
-cramped-requires : tie.Need-cramped-requires
-cramped-requires c κs = search needs
+    let a = to-accepts _ _ _ _ _ _ (c .before .before .before .before .before .before .before .before .before .before .before .before .before .before .load .ensures) (c .before .before .before .before .before .before .before .before .before .before .enum-told .given .1) in
+    let f = question-there (a .reading .questions) (c .before .before .before .before .before .before .before .before .before .before .before .before .before .before .before .before .before .before .before .before .before .args .question) (omega (arith, question-count a, c .before .before .before .before .before .before .before .if1 .left)) in
+    told-refused _ _ _ _ _ _ 13 0 (c .holds-refused2 .ensures) (holds-inconsistent _ _ _ _ _ (a .reading) (a .is) (f .0) (f .1) (sym (c .before .before .before .consistent .ensures _ (a .holds .stored)) ∙ not-true _ (c .before .if2 .taken)))
 
 holds-refused-requires-3 : tie.Need-holds-refused-requires-3
 holds-refused-requires-3 c κs = search needs
@@ -59,8 +59,8 @@ returns-3 : tie.Need-returns-3
 returns-3 c =
     let a = to-accepts _ _ _ _ _ _ (c .before .before .before .before .before .before .before .before .before .before .before .before .before .before .before .load .ensures) (c .before .before .before .before .before .before .before .before .before .before .before .enum-told .given .1) in
     let f = question-there (a .reading .questions) (c .before .before .before .before .before .before .before .before .before .before .before .before .before .before .before .before .before .before .before .before .before .before .args .question) (omega (arith, question-count a, c .before .before .before .before .before .before .before .before .if1 .left)) in
-    let e = sym (c .before .before .before .before .consistent .ensures _ (a .holds .stored)) ∙ not-false _ (c .before .before .before .if2 .left) in
-    told-refused _ _ _ _ _ _ 11 0 (c .holds-refused3 .ensures) (holds-cramped _ _ _ _ _ (a .reading) (a .is) (f .0) (f .1) e (sym (c .before .before .cramped .ensures) ∙ c .before .if3 .taken))
+    let e = sym (c .before .before .before .before .consistent .ensures _ (a .holds .stored)) ∙ not-false _ (c .before .before .if2 .left) in
+    told-refused _ _ _ _ _ _ 11 0 (c .holds-refused3 .ensures) (holds-cramped _ _ _ _ _ (a .reading) (a .is) (f .0) (f .1) e (sym (c .before .before .before .cramped .ensures) ∙ c .before .if3 .taken))
 
 slice-aggregate-holds-loaded : tie.Need-slice-aggregate-holds-loaded
 slice-aggregate-holds-loaded c = search needs
@@ -72,8 +72,8 @@ holds-loaded-requires : tie.Need-holds-loaded-requires
 holds-loaded-requires c κs =
     let l = c .before .before .before .before .before .before .before .before .before .before .before .before .before .before .before .before .before .before .load in
     let a = to-accepts _ _ _ _ _ _ (l .ensures) (c .before .before .before .before .before .before .before .before .before .before .before .before .before .before .enum-told .given .1) in
-    let room = roomy _ _ (sym (c .before .before .before .before .before .cramped .ensures) ∙ c .before .before .before .before .if3 .left) in
-    ((c .before .before .before .before .before .before .before .before .before .before .before .if1 .left, omega (arith, a .short, l .kept), omega (arith, l .kept), cut-size a _ (sym (c .before .before .before .before .before .before .before .consistent .ensures _ (a .holds .stored)) ∙ not-false _ (c .before .before .before .before .before .before .if2 .left)), room .0, room .1), (_, a))
+    let room = roomy _ _ (sym (c .before .before .before .before .before .before .cramped .ensures) ∙ c .before .before .before .before .if3 .left) in
+    ((c .before .before .before .before .before .before .before .before .before .before .before .if1 .left, omega (arith, a .short, l .kept), omega (arith, l .kept), cut-size a _ (sym (c .before .before .before .before .before .before .before .consistent .ensures _ (a .holds .stored)) ∙ not-false _ (c .before .before .before .before .before .if2 .left)), room .0, room .1), (_, a))
 
 told-requires : tie.Need-told-requires
 told-requires c κs = search needs
@@ -91,8 +91,8 @@ returns-5 : tie.Need-returns-5
 returns-5 c =
     let a = to-accepts _ _ _ _ _ _ (c .before .before .before .before .before .before .before .before .before .before .before .before .before .before .before .before .before .before .before .before .before .before .before .before .load .ensures) (c .before .before .before .before .before .before .before .before .before .before .before .before .before .before .before .before .before .before .before .before .enum-told .given .1) in
     let f = question-there (a .reading .questions) (c .before .before .before .before .before .before .before .before .before .before .before .before .before .before .before .before .before .before .before .before .before .before .before .before .before .before .before .before .before .before .before .args .question) (omega (arith, question-count a, c .before .before .before .before .before .before .before .before .before .before .before .before .before .before .before .before .before .if1 .left)) in
-    let e = sym (c .before .before .before .before .before .before .before .before .before .before .before .before .before .consistent .ensures _ (a .holds .stored)) ∙ not-false _ (c .before .before .before .before .before .before .before .before .before .before .before .before .if2 .left) in
-    told-given _ _ _ (c .before .before .before .before .before .before .before .before .before .before .before .before .before .before .before .before .before .before .before .before .before .before .before .before .before .before .before .before .before .before .before .args .ws .now) (c .before .before .before .before .before .before .before .before .before .before .before .before .before .before .before .before .before .before .before .before .before .before .before .before .before .before .before .before .before .before .before .args .bs .now) _ _ (c .told .ensures) (holds-told _ _ _ _ _ (a .reading) (a .is) (f .0) (f .1) e (sym (c .before .before .before .before .before .before .before .before .before .before .before .cramped .ensures) ∙ c .before .before .before .before .before .before .before .before .before .before .if3 .left) _ (sym (c .before .before .before .before .before .holds-loaded .ensures _ a (f .0) (f .1)))) _ _
+    let e = sym (c .before .before .before .before .before .before .before .before .before .before .before .before .before .consistent .ensures _ (a .holds .stored)) ∙ not-false _ (c .before .before .before .before .before .before .before .before .before .before .before .if2 .left) in
+    told-given _ _ _ (c .before .before .before .before .before .before .before .before .before .before .before .before .before .before .before .before .before .before .before .before .before .before .before .before .before .before .before .before .before .before .before .args .ws .now) (c .before .before .before .before .before .before .before .before .before .before .before .before .before .before .before .before .before .before .before .before .before .before .before .before .before .before .before .before .before .before .before .args .bs .now) _ _ (c .told .ensures) (holds-told _ _ _ _ _ (a .reading) (a .is) (f .0) (f .1) e (sym (c .before .before .before .before .before .before .before .before .before .before .before .before .cramped .ensures) ∙ c .before .before .before .before .before .before .before .before .before .before .if3 .left) _ (sym (c .before .before .before .before .before .holds-loaded .ensures _ a (f .0) (f .1)))) _ _
 
 pub holds-spec : {M : Type 1} → statement M
 holds-spec =
@@ -107,9 +107,9 @@ holds-spec =
     returns
     slice-aggregate-consistent
     consistent-requires
+    cramped-requires
     holds-refused-requires-2
     returns-2
-    cramped-requires
     holds-refused-requires-3
     returns-3
     slice-aggregate-holds-loaded
