@@ -103,6 +103,11 @@ fn deep_log() -> Vec<u8> {
     [wide_log(8, 127, 0), questions.iter().flat_map(|q| line(q)).collect()].concat()
 }
 
+/// A question of 98 signs, which is refused after all of it has been measured: no question of any log nests deeper.
+fn refused_log() -> Vec<u8> {
+    [line(&[0x10, 1, 0, 0]), line(&[vec![0x30], vec![2; 98]].concat())].concat()
+}
+
 /// The most heap and stack, in bytes, that the program has on a log.
 pub struct Memory {
     log: String,
@@ -114,14 +119,14 @@ fn memory_on(log: String) -> Memory {
     let out = format!("{FOLDER}/massif.out");
     let (printed, _) = valgrind(&["--tool=massif", "--stacks=yes", "--peak-inaccuracy=0.0", &format!("--massif-out-file={out}"), PROGRAM], &log);
     let limited = Command::new("sh").args(["-c", &format!("ulimit -s 256; {PROGRAM} < {log}")]).output().unwrap();
-    assert!(printed.starts_with("40") && printed.as_bytes() == limited.stdout, "the answers of {log}, also with 256 KiB of stack");
+    assert!(!printed.is_empty() && printed.as_bytes() == limited.stdout, "what is printed for {log}, also with 256 KiB of stack");
     let told = std::fs::read_to_string(out).unwrap();
     let most = |key: &str| told.lines().filter_map(|l| l.strip_prefix(key)?.parse().ok()).max().unwrap();
     Memory { heap: most("mem_heap_B="), stack: most("mem_stacks_B="), log }
 }
 
-pub fn memory() -> [Memory; 2] {
-    [file("8x127", &wide_log(8, 127, 16)), file("deep", &deep_log())].map(memory_on)
+pub fn memory() -> [Memory; 3] {
+    [file("8x127", &wide_log(8, 127, 16)), file("deep", &deep_log()), file("refused", &refused_log())].map(memory_on)
 }
 
 pub fn memory_section(memory: &[Memory]) -> String {
