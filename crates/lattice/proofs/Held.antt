@@ -11,7 +11,7 @@ use lib.Dec.{leb}
 use borrow.Author.Tests.{leb-true}
 use Rattle.model.specs.Formula.{Formula, tokens, atoms, signs}
 use Rattle.model.specs.Rules.{Normal, asTrue}
-use Rattle.model.specs.Rules.Normal.{atom, both, either, possible, impossible}
+use Rattle.model.specs.Rules.Normal.{literal, both, either, possible, impossible}
 use Rattle.model.specs.Size.{width, held, narrow, fits}
 use Rattle.lattice.proofs.Tests.{and-true}
 use Rattle.lattice.proofs.Size.{narrow-to, narrow-both, narrow-either, narrow-possible, narrow-impossible}
@@ -40,7 +40,7 @@ held-impossible p = (omega arith, omega arith)
 -- A basis itself.
 pub width-held : (p : Normal) → width p ≤ held p
 unfolding held width
-width-held (atom b s lo hi) = omega arith
+width-held (literal b a) = omega arith
 width-held (both p q) = omega (arith, held-both p q .2)
 width-held (either p q) = omega (arith, held-either p q .2)
 width-held (possible p) = omega (arith, held-possible p .1)
@@ -61,7 +61,7 @@ small-product (suc (suc (suc x))) y h = few y h
 
 atoms-pos : (p : Normal) → 1 ≤ atomsOf p
 unfolding weighed
-atoms-pos (atom b s lo hi) = omega arith
+atoms-pos (literal b a) = omega arith
 atoms-pos (both p q) = omega (arith, atoms-pos p)
 atoms-pos (either p q) = omega (arith, atoms-pos p)
 atoms-pos (possible p) = atoms-pos p
@@ -70,7 +70,7 @@ atoms-pos (impossible p) = atoms-pos p
 -- With fewer than 5 atoms a width is at most their number.
 width-atoms : (p : Normal) → (width p ≤ atomsOf p) ⊎ (5 ≤ atomsOf p)
 unfolding width weighed
-width-atoms (atom b s lo hi) = inl (omega arith)
+width-atoms (literal b a) = inl (omega arith)
 width-atoms (both p q) = go (width-atoms p) (width-atoms q) (decLe 5 (atomsOf p + atomsOf q))
   where
     go : (width p ≤ atomsOf p) ⊎ (5 ≤ atomsOf p) → (width q ≤ atomsOf q) ⊎ (5 ≤ atomsOf q) → Dec (5 ≤ atomsOf p + atomsOf q)
@@ -99,7 +99,7 @@ five-width p h = go (width-atoms p) (narrow-to p h .0)
 -- Five times the figure, by the atoms.
 pub five-held : (p : Normal) → narrow p ≡ true → 5 * held p ≤ 16 * atomsOf p + 80
 unfolding held width weighed
-five-held (atom b s lo hi) h = omega arith
+five-held (literal b a) h = omega arith
 five-held (both p q) h = let n = narrow-both p q h in
     omega (arith, n .0, five-held p (n .2), five-held q (n .3), five-width p (n .2), five-width q (n .3))
 five-held (either p q) h = let n = narrow-either p q h in

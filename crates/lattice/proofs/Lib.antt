@@ -12,6 +12,7 @@ pub mod Sets
 pub mod Bases
 pub mod Intersection
 pub mod Steps
+pub mod Atoms
 pub mod Theorem
 pub mod Tops
 pub mod Order

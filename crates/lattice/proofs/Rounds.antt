@@ -12,7 +12,7 @@ use Rattle.model.specs.Formula.{Formula, signs}
 use Rattle.model.specs.Cut.{Cut, empty}
 use Rattle.model.specs.Computation.{Computation, Event, stations, eventCount, clock}
 use Rattle.model.specs.Rules.{Normal, asTrue}
-use Rattle.model.specs.Rules.Normal.{atom, both, either, possible, impossible}
+use Rattle.model.specs.Rules.Normal.{literal, both, either, possible, impossible}
 use Rattle.model.specs.Size.{width, narrow}
 use Rattle.model.specs.Structure.{Structure}
 use Rattle.model.specs.Basis.{start, basis}
@@ -37,7 +37,7 @@ module _ (K : Computation) (ok : Valid K) where
   pair-by-rule S T gs gt j k h = start-rule K S T gs gt (clock K j k) (clock-consistent K ok j k h)
 
   pub all-by-rule : (p : Normal) → AllByRule K p
-  all-by-rule (atom b s lo hi) = tt
+  all-by-rule (literal b a) = tt
   all-by-rule (both p q) = (all-by-rule p, all-by-rule q, λ S T m n. pair-by-rule S T (member-good p S m) (member-good q T n))
   all-by-rule (either p q) = (all-by-rule p, all-by-rule q)
   all-by-rule (possible p) = all-by-rule p
@@ -74,7 +74,7 @@ sixteen K L R v w a b h = omega (arith, pairs-le K L R, mul-le-mul-right (square
 -- Of a narrow normal form, by its signs.
 pub rounds-normal : (K : Computation) (p : Normal) → narrow p ≡ true → rounds K p ≤ 16 * signsOf p * square K
 unfolding rounds weighed
-rounds-normal K (atom b s lo hi) h = omega arith
+rounds-normal K (literal b a) h = omega arith
 rounds-normal K (both p q) h = let n = narrow-both p q h in
     omega (arith, rounds-normal K p (n .2), rounds-normal K q (n .3), sixteen K (basis K p) (basis K q) (width p) (width q) (basis-width K p) (basis-width K q) (n .0))
 rounds-normal K (either p q) h = let n = narrow-either p q h in omega (arith, rounds-normal K p (n .2), rounds-normal K q (n .3))

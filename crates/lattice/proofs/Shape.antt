@@ -4,10 +4,11 @@ use mathlib.Core.Option.{some}
 use mathlib.Core.List.{List, [], _∷_, _++_, map}
 use lib.ListN.{length, length-map}
 use Rattle.model.specs.Computation.{Computation, Consistent, full}
-use Rattle.model.specs.Rules.{Normal, passes}
-use Rattle.model.specs.Rules.Normal.{atom, both, either, possible, impossible}
+use Rattle.model.specs.Rules.{Normal}
+use Rattle.model.specs.Rules.Normal.{literal, both, either, possible, impossible}
 use Rattle.model.specs.Structure.{Structure, greatest, build}
-use Rattle.model.specs.Basis.{raiseAtom, intersect, below, lowered, barred, basis}
+use Rattle.model.specs.Atom.{raiseAtom}
+use Rattle.model.specs.Basis.{intersect, below, lowered, barred, basis}
 use Rattle.lattice.proofs.Valid.{Valid}
 use Rattle.lattice.proofs.Lists.{All, all-append, all-map, all-to-map}
 use Rattle.lattice.proofs.Lists.All.{done}
@@ -27,7 +28,7 @@ module _ (K : Computation) (ok : Valid K) where
   -- Of this shape are all structures of a basis.
   pub basis-shaped : (p : Normal) → All (Shaped K) (basis K p)
   unfolding basis lowered barred intersect
-  basis-shaped (atom b s lo hi) = build-all K (raiseAtom K s (passes b lo hi)) [] (λ l. record { rows-are = same-lengths _ (K .events); bars-are = done })
+  basis-shaped (literal b a) = build-all K (raiseAtom K b a) [] (λ l. record { rows-are = same-lengths _ (K .events); bars-are = done })
   basis-shaped (both p q) = pairs-all K (λ S T a b. build-all K _ (S .bars ++ T .bars) (λ l. record { rows-are = same-lengths _ (K .events); bars-are = all-append (a .bars-are) (b .bars-are) })) (basis-shaped p) (basis-shaped q)
   basis-shaped (either p q) = all-append (basis-shaped p) (basis-shaped q)
   basis-shaped (possible p) = each-all (λ S. build K (below (greatest S)) []) (λ S a. build-all K (below (greatest S)) [] (λ l. record { rows-are = same-lengths _ (K .events); bars-are = done })) (basis-shaped p)

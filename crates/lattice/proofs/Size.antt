@@ -11,11 +11,12 @@ use lib.Dec.{leb}
 use borrow.Author.Tests.{leb-true}
 use Rattle.model.specs.Cut.{Cut, empty, insideAny}
 use Rattle.model.specs.Computation.{Computation, stations}
-use Rattle.model.specs.Rules.{Normal, passes}
-use Rattle.model.specs.Rules.Normal.{atom, both, either, possible, impossible}
+use Rattle.model.specs.Rules.{Normal}
+use Rattle.model.specs.Rules.Normal.{literal, both, either, possible, impossible}
 use Rattle.model.specs.Size.{width, bars, slim, narrow}
 use Rattle.model.specs.Structure.{Structure, greatest, keep, buildOn, build}
-use Rattle.model.specs.Basis.{raiseAtom, intersect, each, pairs, below, lowered, barred, basis}
+use Rattle.model.specs.Atom.{raiseAtom}
+use Rattle.model.specs.Basis.{intersect, each, pairs, below, lowered, barred, basis}
 use Rattle.lattice.proofs.Tests.{and-true}
 use Rattle.lattice.proofs.Lists.{All, all-append, all-map, all-at}
 use Rattle.lattice.proofs.Built.{build-all, each-all, pairs-all}
@@ -64,7 +65,7 @@ length-barred K L = length-build K some (map greatest L)
 -- A basis has no more structures than the width.
 pub basis-width : (K : Computation) (p : Normal) → length (basis K p) ≤ width p
 unfolding basis width
-basis-width K (atom b s lo hi) = length-build K (raiseAtom K s (passes b lo hi)) []
+basis-width K (literal b a) = length-build K (raiseAtom K b a) []
 basis-width K (both p q) = le-trans (length-pairs K (basis K p) (basis K q)) (mul-le-mul (basis-width K p) (basis-width K q))
 basis-width K (either p q) = omega (arith, length-append (basis K p) (basis K q), basis-width K p, basis-width K q)
 basis-width K (possible p) = le-trans (length-lowered K (basis K p)) (basis-width K p)
@@ -90,7 +91,7 @@ bars-up m n h = all-map (λ S p. le-trans p h)
 -- No structure of a basis has more bars than the bar count.
 pub basis-bars : (K : Computation) (p : Normal) → All (Bars (bars p)) (basis K p)
 unfolding basis bars barred
-basis-bars K (atom b s lo hi) = build-all K (raiseAtom K s (passes b lo hi)) [] (λ l. omega arith)
+basis-bars K (literal b a) = build-all K (raiseAtom K b a) [] (λ l. omega arith)
 basis-bars K (both p q) = bars-pairs K (bars p) (bars q) (basis-bars K p) (basis-bars K q)
 basis-bars K (either p q) = all-append (bars-up (bars p) (max (bars p) (bars q)) (omega arith) (basis-bars K p)) (bars-up (bars q) (max (bars p) (bars q)) (omega arith) (basis-bars K q))
 basis-bars K (possible p) = bars-lowered K (bars p) (basis-bars K p)
@@ -136,7 +137,7 @@ narrow-impossible p h = let r = one-to p (impossible p) h in (r .1, r .2)
 -- A narrow formula has a width and a bar count of at most 16.
 pub narrow-to : (p : Normal) → narrow p ≡ true → (width p ≤ 16) × (bars p ≤ 16)
 unfolding narrow width bars
-narrow-to (atom b s lo hi) h = (omega arith, omega arith)
+narrow-to (literal b a) h = (omega arith, omega arith)
 narrow-to (both p q) h = let r = narrow-both p q h in (r .0, r .1)
 narrow-to (either p q) h = let r = narrow-either p q h in (r .0, r .1)
 narrow-to (possible p) h = (narrow-possible p h .0, omega arith)
@@ -145,7 +146,7 @@ narrow-to (impossible p) h = (omega arith, narrow-impossible p h .0)
 -- No width is 0.
 pub width-pos : (p : Normal) → 1 ≤ width p
 unfolding width
-width-pos (atom b s lo hi) = omega arith
+width-pos (literal b a) = omega arith
 width-pos (both p q) = mul-le-mul (width-pos p) (width-pos q)
 width-pos (either p q) = omega (arith, width-pos p)
 width-pos (possible p) = width-pos p

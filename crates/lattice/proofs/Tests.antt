@@ -32,6 +32,10 @@ pub not-iff : (b : Bool) → (not b ≡ true) ↔ (b ≡ true → ⊥)
 not-iff true = (λ p q. clash p refl, λ h. absurd (h refl))
 not-iff false = (λ p q. clash q refl, λ h. refl)
 
+pub not-true : (b : Bool) → (not b ≡ true) ↔ (b ≡ false)
+not-true true = (λ p. sym p, λ p. sym p)
+not-true false = (λ p. refl, λ p. refl)
+
 pub same-test : (a b : Bool) → (a ≡ true → b ≡ true) → (b ≡ true → a ≡ true) → a ≡ b
 same-test true b h k = sym (h refl)
 same-test false true h k = k refl

@@ -3,13 +3,13 @@ use mathlib.Core.Path.{_≡_, refl}
 use Prim.Native.Nat.{ℕ, suc, _+_}
 use native.Mathlib.Omega.{arith}
 use Rattle.model.specs.Formula.{Formula, weigh, atoms, signs}
-use Rattle.model.specs.Formula.Formula.{inRange, not, and, or, possibly, always}
+use Rattle.model.specs.Formula.Formula.{atom, not, and, or, possibly, always}
 use Rattle.model.specs.Rules.{Normal, asTrue, asFalse}
-use Rattle.model.specs.Rules.Normal.{atom, both, either, possible, impossible}
+use Rattle.model.specs.Rules.Normal.{literal, both, either, possible, impossible}
 
 -- Each atom weighed by a, and each both and either by b.
 unfoldable pub weighed : ℕ → ℕ → Normal → ℕ
-weighed a b (atom t s lo hi) = a
+weighed a b (literal t x) = a
 weighed a b (both p q) = b + weighed a b p + weighed a b q
 weighed a b (either p q) = b + weighed a b p + weighed a b q
 weighed a b (possible p) = weighed a b p
@@ -26,7 +26,7 @@ mutual
   unfolding weighed weigh asTrue asFalse
 
   pub weight-true : (a b : ℕ) (f : Formula) → weighed a b (asTrue f) ≡ weigh a 0 b f
-  weight-true a b (inRange s lo hi) = refl
+  weight-true a b (atom x) = refl
   weight-true a b (not f) = omega (arith, weight-false a b f)
   weight-true a b (and f g) = omega (arith, weight-true a b f, weight-true a b g)
   weight-true a b (or f g) = omega (arith, weight-true a b f, weight-true a b g)
@@ -34,7 +34,7 @@ mutual
   weight-true a b (always f) = omega (arith, weight-false a b f)
 
   pub weight-false : (a b : ℕ) (f : Formula) → weighed a b (asFalse f) ≡ weigh a 0 b f
-  weight-false a b (inRange s lo hi) = refl
+  weight-false a b (atom x) = refl
   weight-false a b (not f) = omega (arith, weight-true a b f)
   weight-false a b (and f g) = omega (arith, weight-false a b f, weight-false a b g)
   weight-false a b (or f g) = omega (arith, weight-false a b f, weight-false a b g)
@@ -44,7 +44,7 @@ mutual
 -- There is one atom more than and- and or-signs.
 pub signs-atoms : (f : Formula) → suc (signs f) ≡ atoms f
 unfolding weigh
-signs-atoms (inRange s lo hi) = refl
+signs-atoms (atom x) = refl
 signs-atoms (not f) = omega (arith, signs-atoms f)
 signs-atoms (and f g) = omega (arith, signs-atoms f, signs-atoms g)
 signs-atoms (or f g) = omega (arith, signs-atoms f, signs-atoms g)

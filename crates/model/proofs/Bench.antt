@@ -9,14 +9,16 @@ use lib.ListN.{replicate}
 use Rattle.model.specs.Lists.{sum, between, every}
 use Rattle.model.specs.Bytes.{push, linesOf, digit, byte, bytes, carried, items, hexDigit, hex, checkByte, line}
 use Rattle.model.specs.Frames.{word, words, listOf}
+use Rattle.model.specs.Atom.{atomBytes, operands, atomOf, soundAtom, next, upTo, raiseTo, passes, raiseAtom}
+use Rattle.model.specs.Atom.Atom.{inRange}
 use Rattle.model.specs.Formula.{Formula, prefix, ahead, one, two, sign, token, spelt, formulasIn, single, formulaOf, sound, weigh}
-use Rattle.model.specs.Formula.Formula.{inRange, not, and, or, possibly, always}
+use Rattle.model.specs.Formula.Formula.{atom, not, and, or, possibly, always}
 use Rattle.model.specs.Cut.{Cut, inside, insideAny, join}
 use Rattle.model.specs.Computation.{Computation, clock, value, known, isConsistent, counted, clockOk}
-use Rattle.model.specs.Rules.{asTrue, asFalse, passes}
+use Rattle.model.specs.Rules.{asTrue, asFalse}
 use Rattle.model.specs.Size.{width, bars, slim, narrow, fits}
 use Rattle.model.specs.Structure.{row, joined, raiseBy, raise, reaches, inSet, belongs, belongsAny, joinRow, joinRows, greatest, keep, buildOn, build}
-use Rattle.model.specs.Basis.{next, upTo, raiseAtom, thenRight, round, onward, after, run, start, intersect, each, pairs, below, lowered, barred, basis}
+use Rattle.model.specs.Basis.{thenRight, round, onward, after, run, start, intersect, each, pairs, below, lowered, barred, basis}
 use Rattle.model.specs.Rounds.{roundsOfPair, roundsOfPairs, rounds}
 use Rattle.model.specs.Answer.{notInside, add, tops, precedes, insert, sort, trueAt, answer, inRow, fourBytes, answerLine, refusalLine}
 use Rattle.model.specs.Reading.{begun, check, headerForm, opened, admitHeader, eventForm, extended, unasked, admitEvent, asked, admitQuestion, admit, finish, proceed, readItems, readLog}
@@ -29,12 +31,16 @@ pub ascii : String → List ℕ
 ascii text.[] = []
 ascii (text._∷_ c s) = code c ∷ ascii s
 
+-- 01 as a formula.
+pub range : ℕ → ℕ → ℕ → Formula
+range s lo hi = atom (inRange s lo hi)
+
 -- The bench log up to its question.
 pub bench : List ℕ
 bench = ascii "100200000000EE\n200000050100DA\n200100010001DD\n200100020102DA\n"
 
 pub Q : Formula
-Q = and (inRange 0 5 5) (inRange 1 1 1)
+Q = and (range 0 5 5) (range 1 1 1)
 
 -- The bench log with the question f.
 pub asking : Formula → List ℕ
@@ -50,9 +56,55 @@ benched = record {
       ∷ [];
 }
 
+-- The reply of Holds at a cut of the bench log with Q.
+pub holdsAt : Cut → Reply
+holdsAt c = holdsOp (asking Q) 0 c 65536 8192
+
+-- Ors of two and of three ways.
+pub two-ways : Formula
+two-ways = or (range 0 5 5) (range 0 5 5)
+
+pub three-ways : Formula
+three-ways = or (range 0 5 5) two-ways
+
+-- All that is computed with: to unfold this is to unfold what its line names.
+definitions : Unit {0}
+unfolding ascii range bench Q asking holdsAt two-ways three-ways sum between every push linesOf digit byte bytes carried items hexDigit hex checkByte line word words listOf atomBytes operands atomOf soundAtom next upTo raiseTo passes raiseAtom prefix ahead one two sign token spelt formulasIn single formulaOf sound weigh inside insideAny join clock value known isConsistent counted clockOk asTrue asFalse width bars slim narrow fits row joined raiseBy raise reaches inSet belongs belongsAny joinRow joinRows greatest keep buildOn build thenRight round onward after run start intersect each pairs below lowered barred basis roundsOfPair roundsOfPairs rounds notInside add tops precedes insert sort trueAt answer inRow fourBytes answerLine refusalLine begun check headerForm opened admitHeader eventForm extended unasked admitEvent asked admitQuestion admit finish proceed readItems readLog readEffect readOp cramped cutReply holdsReplyTo holdsOp answerLines printedOf printed
+definitions = tt
+
+-- The twelve cases marked *.
+pub twelve :
+    (asking Q ≡ bench ++ ascii "3003010000050005010100010001BE\n")
+    × (printed (asking Q) ≡ ascii "400001010100000007B6\n")
+    × (printed (asking (possibly Q)) ≡ ascii "400101010100000007B5\n")
+    × (printed (asking (always (not Q))) ≡ ascii "400001010200000007B5\n")
+    × (printed (asking (range 0 5 5)) ≡ ascii "400001010200000000BC\n")
+    × (printed (asking (range 0 6 9)) ≡ ascii "40000000000000C0\n")
+    × (printed (asking (always (range 0 0 5))) ≡ ascii "400101010200000000BB\n")
+    × (printed (asking (or (and (range 0 5 5) (range 1 0 0)) (and (range 0 0 0) (range 1 1 1)))) ≡ ascii "400002000101000000000AB2\n")
+    × (printed (asking (or Q Q)) ≡ ascii "40000101010000000EAF\n")
+    × (printed (asking (and (range 0 6 9) Q)) ≡ ascii "40000000000007B9\n")
+    × (holdsAt (1 ∷ 1 ∷ []) ≡ gives (1 ∷ []))
+    × (holdsAt (1 ∷ 0 ∷ []) ≡ gives (0 ∷ []))
+    × (holdsAt (0 ∷ 2 ∷ []) ≡ refuses 13 0)
+unfolding definitions
+twelve = (refl, refl, refl, refl, refl, refl, refl, refl, refl, refl, refl, refl, refl)
+
+-- What else the rules for dropping, bars, rounds and width come to.
+pub more :
+    (printed bench ≡ [])
+    × (printed [] ≡ ascii "50040001AB\n")
+    × (printed (asking (and (range 0 0 0) (range 1 2 2))) ≡ ascii "40000000000006BA\n")
+    × (printed (asking (and (range 0 0 5) (always (not Q)))) ≡ ascii "40000101020000000BB1\n")
+    × (printed (asking (possibly (and (range 0 5 5) (range 1 0 0)))) ≡ ascii "400101010000000005B8\n")
+    × (readOp (asking (and (and two-ways two-ways) (and two-ways two-ways))) (replicate 4096 0) .reply ≡ gives (2 ∷ 3 ∷ 1 ∷ 85 ∷ []))
+    × (printed (asking (and (and three-ways three-ways) two-ways)) ≡ ascii "50090005A2\n")
+unfolding definitions
+more = (refl, refl, refl, refl, refl, refl, refl)
+
 -- What is promised of accepted logs and their questions is promised of this one.
 pub bench-asked : Asked (asking Q) 0 benched Q
-unfolding ascii bench Q asking sum between every push linesOf digit byte bytes carried items hexDigit hex checkByte line word words prefix ahead one two sign token spelt formulasIn single formulaOf sound weigh inside clock known counted clockOk asTrue width bars slim narrow fits begun check headerForm opened admitHeader eventForm extended unasked admitEvent asked admitQuestion admit finish proceed readItems readLog benched
+unfolding definitions benched
 bench-asked = record {
   frames =
       (0x10 ∷ 2 ∷ 0 ∷ 0 ∷ 0 ∷ 0 ∷ [])
@@ -65,44 +117,3 @@ bench-asked = record {
   reads = refl;
   is = refl;
 }
-
--- The reply of Holds at a cut of the bench log with Q.
-pub holdsAt : Cut → Reply
-holdsAt c = holdsOp (asking Q) 0 c 65536 8192
-
--- The twelve cases marked *.
-pub twelve :
-    (asking Q ≡ bench ++ ascii "3003010000050005010100010001BE\n")
-    × (printed (asking Q) ≡ ascii "400001010100000007B6\n")
-    × (printed (asking (possibly Q)) ≡ ascii "400101010100000007B5\n")
-    × (printed (asking (always (not Q))) ≡ ascii "400001010200000007B5\n")
-    × (printed (asking (inRange 0 5 5)) ≡ ascii "400001010200000000BC\n")
-    × (printed (asking (inRange 0 6 9)) ≡ ascii "40000000000000C0\n")
-    × (printed (asking (always (inRange 0 0 5))) ≡ ascii "400101010200000000BB\n")
-    × (printed (asking (or (and (inRange 0 5 5) (inRange 1 0 0)) (and (inRange 0 0 0) (inRange 1 1 1)))) ≡ ascii "400002000101000000000AB2\n")
-    × (printed (asking (or Q Q)) ≡ ascii "40000101010000000EAF\n")
-    × (printed (asking (and (inRange 0 6 9) Q)) ≡ ascii "40000000000007B9\n")
-    × (holdsAt (1 ∷ 1 ∷ []) ≡ gives (1 ∷ []))
-    × (holdsAt (1 ∷ 0 ∷ []) ≡ gives (0 ∷ []))
-    × (holdsAt (0 ∷ 2 ∷ []) ≡ refuses 13 0)
-unfolding ascii bench Q asking holdsAt sum between every push linesOf digit byte bytes carried items hexDigit hex checkByte line word words prefix ahead one two sign token spelt formulasIn single formulaOf sound weigh inside insideAny join clock value known isConsistent counted clockOk asTrue asFalse passes width bars slim narrow fits row joined raiseBy raise reaches inSet belongs belongsAny joinRow joinRows greatest keep buildOn build next upTo raiseAtom thenRight round onward after run start intersect each pairs below lowered barred basis roundsOfPair roundsOfPairs rounds notInside add tops precedes insert sort trueAt answer inRow fourBytes answerLine refusalLine begun check headerForm opened admitHeader eventForm extended unasked admitEvent asked admitQuestion admit finish proceed readItems readLog cramped cutReply holdsReplyTo holdsOp answerLines printedOf printed
-twelve = (refl, refl, refl, refl, refl, refl, refl, refl, refl, refl, refl, refl, refl)
-
--- Ors of two and of three ways.
-pub two-ways : Formula
-two-ways = or (inRange 0 5 5) (inRange 0 5 5)
-
-pub three-ways : Formula
-three-ways = or (inRange 0 5 5) two-ways
-
--- What else the rules for dropping, bars, rounds and width come to.
-pub more :
-    (printed bench ≡ [])
-    × (printed [] ≡ ascii "50040001AB\n")
-    × (printed (asking (and (inRange 0 0 0) (inRange 1 2 2))) ≡ ascii "40000000000006BA\n")
-    × (printed (asking (and (inRange 0 0 5) (always (not Q)))) ≡ ascii "40000101020000000BB1\n")
-    × (printed (asking (possibly (and (inRange 0 5 5) (inRange 1 0 0)))) ≡ ascii "400101010000000005B8\n")
-    × (readOp (asking (and (and two-ways two-ways) (and two-ways two-ways))) (replicate 4096 0) .reply ≡ gives (2 ∷ 3 ∷ 1 ∷ 85 ∷ []))
-    × (printed (asking (and (and three-ways three-ways) two-ways)) ≡ ascii "50090005A2\n")
-unfolding ascii bench Q asking two-ways three-ways listOf sum between every push linesOf digit byte bytes carried items hexDigit hex checkByte line word words prefix ahead one two sign token spelt formulasIn single formulaOf sound weigh inside insideAny join clock value known isConsistent counted clockOk asTrue asFalse passes width bars slim narrow fits row joined raiseBy raise reaches inSet belongs belongsAny joinRow joinRows greatest keep buildOn build next upTo raiseAtom thenRight round onward after run start intersect each pairs below lowered barred basis roundsOfPair roundsOfPairs rounds notInside add tops precedes insert sort trueAt answer inRow fourBytes answerLine refusalLine begun check headerForm opened admitHeader eventForm extended unasked admitEvent asked admitQuestion admit finish proceed readItems readLog readEffect readOp answerLines printedOf printed
-more = (refl, refl, refl, refl, refl, refl, refl)

@@ -1,29 +1,14 @@
 -- The basis of a formula: the structures to which the cuts belong at which it is true.
-use Prim.Native.Nat.{ℕ, zero, suc, _-_}
+use Prim.Native.Nat.{ℕ, zero, suc}
 use mathlib.Core.Bool.{Bool, true, false, cond}
 use mathlib.Core.List.{List, [], _∷_, _++_, map}
 use mathlib.Core.Option.{Option, none, some}
-use Rattle.model.specs.Cut.{Cut, _!_, inside, join}
-use Rattle.model.specs.Computation.{Computation, count, eventCount, clock, value}
+use Rattle.model.specs.Cut.{Cut, inside}
+use Rattle.model.specs.Computation.{Computation, eventCount}
+use Rattle.model.specs.Atom.{raiseAtom}
 use Rattle.model.specs.Structure.{Structure, raise, greatest, build}
-use Rattle.model.specs.Rules.{Normal, passes}
-use Rattle.model.specs.Rules.Normal.{atom, both, either, possible, impossible}
-
--- 01
-
--- The first of the m numbers from k on that passes the test.
-unfoldable pub next : (ℕ → Bool) → ℕ → ℕ → Option ℕ
-next p zero k = none
-next p (suc m) k = cond (p k) (some k) (next p m (suc k))
-
--- c joined with the clock of event k of station s, where there is such a k.
-unfoldable pub upTo : Computation → ℕ → Cut → Option ℕ → Option Cut
-upTo K s c none = none
-upTo K s c (some k) = some (join c (clock K s k))
-
--- The least cut that contains c and at which the value of station s passes the test, or none.
-unfoldable pub raiseAtom : Computation → ℕ → (ℕ → Bool) → Cut → Option Cut
-raiseAtom K s p c = upTo K s c (next (λ k. p (value K s k)) (suc (count K s) - c ! s) (c ! s))
+use Rattle.model.specs.Rules.{Normal}
+use Rattle.model.specs.Rules.Normal.{literal, both, either, possible, impossible}
 
 -- AND: intersection by rounds
 
@@ -89,7 +74,7 @@ barred K L = build K some (map greatest L)
 
 -- The basis.
 unfoldable pub basis : Computation → Normal → List Structure
-basis K (atom b s lo hi) = build K (raiseAtom K s (passes b lo hi)) []
+basis K (literal b a) = build K (raiseAtom K b a) []
 basis K (both p q) = pairs K (basis K p) (basis K q)
 basis K (either p q) = basis K p ++ basis K q
 basis K (possible p) = lowered K (basis K p)

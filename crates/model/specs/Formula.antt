@@ -1,21 +1,20 @@
 -- Formulas, and their bytes in prefix form.
-use Prim.Native.Nat.{ℕ, zero, suc, _+_, _/_, _%_}
-use mathlib.Core.Bool.{Bool, true, false, cond, _&&_}
+use Prim.Native.Nat.{ℕ, zero, suc, _+_}
+use mathlib.Core.Bool.{Bool, cond, _&&_}
 use mathlib.Core.List.{List, [], _∷_, _++_}
 use mathlib.Core.Option.{Option, none, some}
-use lib.ListN.{length, drop, getD}
-use lib.Dec.{leb, ltb, eqb}
-use Rattle.model.specs.Frames.{word}
+use lib.ListN.{length, drop}
+use lib.Dec.{leb, eqb}
+use Rattle.model.specs.Atom.{Atom, atomBytes, operands, atomOf, soundAtom}
 
 pub data Formula : Type 0 where
-  -- station, lo, hi: the station's value is from lo to hi
-  inRange : ℕ → ℕ → ℕ → Formula
+  atom : Atom → Formula
   not possibly always : Formula → Formula
   and or : Formula → Formula → Formula
 
 -- The prefix form.
 unfoldable pub prefix : Formula → List ℕ
-prefix (inRange s lo hi) = 0x01 ∷ s ∷ (lo / 256) ∷ (lo % 256) ∷ (hi / 256) ∷ (hi % 256) ∷ []
+prefix (atom a) = atomBytes a
 prefix (not f) = 0x02 ∷ prefix f
 prefix (and f g) = 0x03 ∷ (prefix f ++ prefix g)
 prefix (or f g) = 0x04 ∷ (prefix f ++ prefix g)
@@ -51,14 +50,14 @@ sign t o =
     (cond (eqb t 0x05) (one possibly o)
     (cond (eqb t 0x06) (one always o) none))))
 
--- 01 is followed by five bytes; go reads what is after a token.
-unfoldable pub token : (List ℕ → Option (List Formula)) → ℕ → List ℕ → Bool → Option (List Formula)
-token go t q true = cond (leb 5 (length q)) (ahead (inRange (getD q 0 0) (word (drop 1 q)) (word (drop 3 q))) (go (drop 5 q))) none
-token go t q false = sign t (go q)
+-- An atom's token is followed by k bytes, a sign's by formulas; go reads what is after a token.
+unfoldable pub token : (List ℕ → Option (List Formula)) → ℕ → List ℕ → Option ℕ → Option (List Formula)
+token go t q (some k) = cond (leb k (length q)) (ahead (atom (atomOf t q)) (go (drop k q))) none
+token go t q none = sign t (go q)
 
 unfoldable pub spelt : (List ℕ → Option (List Formula)) → List ℕ → Option (List Formula)
 spelt go [] = some []
-spelt go (t ∷ q) = token go t q (eqb t 0x01)
+spelt go (t ∷ q) = token go t q (operands t)
 
 -- The formulas, for fewer than m tokens.
 unfoldable pub formulasIn : ℕ → List ℕ → Option (List Formula)
@@ -77,18 +76,18 @@ formulaOf q = single (formulasIn (suc (length q)) q)
 
 -- COUNTS
 
--- Of n stations each that is named is there, and no lo is above its hi.
+-- Each atom is sound.
 unfoldable pub sound : ℕ → Formula → Bool
-sound n (inRange s lo hi) = ltb s n && leb lo hi
+sound n (atom a) = soundAtom n a
 sound n (not f) = sound n f
 sound n (and f g) = sound n f && sound n g
 sound n (or f g) = sound n f && sound n g
 sound n (possibly f) = sound n f
 sound n (always f) = sound n f
 
--- The tokens of a formula, each weighed: 01 by a, those of one operand by u, 03 and 04 by b.
+-- The tokens of a formula, each weighed: atoms by a, those of one operand by u, 03 and 04 by b.
 unfoldable pub weigh : ℕ → ℕ → ℕ → Formula → ℕ
-weigh a u b (inRange s lo hi) = a
+weigh a u b (atom x) = a
 weigh a u b (not f) = u + weigh a u b f
 weigh a u b (and f g) = b + weigh a u b f + weigh a u b g
 weigh a u b (or f g) = b + weigh a u b f + weigh a u b g
@@ -99,7 +98,7 @@ weigh a u b (always f) = u + weigh a u b f
 abbrev pub tokens : Formula → ℕ
 tokens = weigh 1 1 1
 
--- Tokens 01.
+-- Atoms: tokens 01.
 abbrev pub atoms : Formula → ℕ
 atoms = weigh 1 0 0
 

@@ -2,9 +2,10 @@ pub mod Limits
 pub mod Lists
 pub mod Bytes
 pub mod Frames
-pub mod Formula
 pub mod Cut
 pub mod Computation
+pub mod Atom
+pub mod Formula
 pub mod Truth
 pub mod Rules
 pub mod Size

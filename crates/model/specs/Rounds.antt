@@ -8,7 +8,7 @@ use Rattle.model.specs.Cut.{Cut, empty}
 use Rattle.model.specs.Computation.{Computation, Event, stations, count, clock}
 use Rattle.model.specs.Structure.{Structure}
 use Rattle.model.specs.Rules.{Normal}
-use Rattle.model.specs.Rules.Normal.{atom, both, either, possible, impossible}
+use Rattle.model.specs.Rules.Normal.{literal, both, either, possible, impossible}
 use Rattle.model.specs.Basis.{round, start, basis}
 
 -- THEIR SUM
@@ -23,7 +23,7 @@ roundsOfPairs K L R = sum (λ S. sum (roundsOfPair K S) R) L
 
 -- The rounds while p is worked out one time.
 unfoldable pub rounds : Computation → Normal → ℕ
-rounds K (atom b s lo hi) = 0
+rounds K (literal b a) = 0
 rounds K (both p q) = rounds K p + rounds K q + roundsOfPairs K (basis K p) (basis K q)
 rounds K (either p q) = rounds K p + rounds K q
 rounds K (possible p) = rounds K p
@@ -46,7 +46,7 @@ PairByRule K S T = (j k : ℕ) → k ≤ count K j → ByRule S T (clock K j k) 
 
 -- So does each start of every pair intersected while p is worked out.
 abbrev pub AllByRule : Computation → Normal → Type 0
-AllByRule K (atom b s lo hi) = Unit {0}
+AllByRule K (literal b a) = Unit {0}
 AllByRule K (both p q) = AllByRule K p × AllByRule K q × ((S T : Structure) → Member S (basis K p) → Member T (basis K q) → PairByRule K S T)
 AllByRule K (either p q) = AllByRule K p × AllByRule K q
 AllByRule K (possible p) = AllByRule K p

@@ -1,14 +1,13 @@
 -- The two rules: a formula and its negation, worked out until no sign is left but those of a basis.
-use Prim.Native.Nat.{ℕ}
-use mathlib.Core.Bool.{Bool, true, false, not as negated}
-use Rattle.model.specs.Lists.{between}
+use mathlib.Core.Bool.{Bool, true, false}
+use Rattle.model.specs.Atom.{Atom}
 use Rattle.model.specs.Formula.{Formula}
-use Rattle.model.specs.Formula.Formula.{inRange, not, and, or, possibly, always}
+use Rattle.model.specs.Formula.Formula.{atom, not, and, or, possibly, always}
 
 -- A formula in negation normal form.
 pub data Normal : Type 0 where
-  -- 01, as true or as false: station, lo, hi
-  atom : Bool → ℕ → ℕ → ℕ → Normal
+  -- an atom, as true or as false
+  literal : Bool → Atom → Normal
   -- and; or
   both either : Normal → Normal → Normal
   -- possibly; not possibly
@@ -17,7 +16,7 @@ pub data Normal : Type 0 where
 unfoldable mutual
   -- "not" passes to the other rule, possibly works on its operand as true, always on its operand as false.
   pub asTrue : Formula → Normal
-  asTrue (inRange s lo hi) = atom true s lo hi
+  asTrue (atom a) = literal true a
   asTrue (not f) = asFalse f
   asTrue (and f g) = both (asTrue f) (asTrue g)
   asTrue (or f g) = either (asTrue f) (asTrue g)
@@ -26,14 +25,9 @@ unfoldable mutual
 
   -- "and" under negation is joined as "or" and the reverse.
   pub asFalse : Formula → Normal
-  asFalse (inRange s lo hi) = atom false s lo hi
+  asFalse (atom a) = literal false a
   asFalse (not f) = asTrue f
   asFalse (and f g) = either (asFalse f) (asFalse g)
   asFalse (or f g) = both (asFalse f) (asFalse g)
   asFalse (possibly f) = impossible (asTrue f)
   asFalse (always f) = possible (asFalse f)
-
--- Does a value pass 01, as true or as false?
-unfoldable pub passes : Bool → ℕ → ℕ → ℕ → Bool
-passes true lo hi v = between lo hi v
-passes false lo hi v = negated (between lo hi v)

@@ -4,11 +4,11 @@ use mathlib.Core.Bool.{Bool, _&&_}
 use lib.Dec.{leb}
 use Rattle.model.specs.Formula.{Formula, tokens, atoms}
 use Rattle.model.specs.Rules.{Normal, asTrue}
-use Rattle.model.specs.Rules.Normal.{atom, both, either, possible, impossible}
+use Rattle.model.specs.Rules.Normal.{literal, both, either, possible, impossible}
 
 -- Width: the structure count if none were dropped.
 unfoldable pub width : Normal → ℕ
-width (atom b s lo hi) = 1
+width (literal b a) = 1
 width (both p q) = width p * width q
 width (either p q) = width p + width q
 width (possible p) = width p
@@ -16,7 +16,7 @@ width (impossible p) = 1
 
 -- Bar count: no structure has more bars.
 unfoldable pub bars : Normal → ℕ
-bars (atom b s lo hi) = 0
+bars (literal b a) = 0
 bars (both p q) = bars p + bars q
 bars (either p q) = max (bars p) (bars q)
 bars (possible p) = 0
@@ -24,7 +24,7 @@ bars (impossible p) = width p
 
 -- Structures held: the most that stand at a time while p is worked out.
 unfoldable pub held : Normal → ℕ
-held (atom b s lo hi) = 1
+held (literal b a) = 1
 held (both p q) = max (held p) (max (width p + held q) (width p + width q + width (both p q)))
 held (either p q) = max (held p) (max (width p + held q) (width p + width q + width (either p q)))
 held (possible p) = max (held p) (width p + width (possible p))
@@ -36,7 +36,7 @@ slim p = leb (width p) 16 && leb (bars p) 16
 
 -- The same at every token.
 unfoldable pub narrow : Normal → Bool
-narrow (atom b s lo hi) = slim (atom b s lo hi)
+narrow (literal b a) = slim (literal b a)
 narrow (both p q) = slim (both p q) && narrow p && narrow q
 narrow (either p q) = slim (either p q) && narrow p && narrow q
 narrow (possible p) = slim (possible p) && narrow p

@@ -1,0 +1,39 @@
+-- The basis of an atom, as true or as false: what build makes of its raising function.
+use mathlib.Core.Path.{_≡_, refl}
+use mathlib.Core.Logic.{_↔_}
+use Prim.Native.Nat.{ℕ}
+use mathlib.Core.Bool.{Bool, true, false}
+use mathlib.Core.Option.{Option}
+use mathlib.Core.List.{[]}
+use Rattle.model.specs.Lists.{between}
+use Rattle.model.specs.Cut.{Cut, _⊑_, insideAny}
+use Rattle.model.specs.Computation.{Computation, Consistent, value}
+use Rattle.model.specs.Atom.{Atom, isTrue, raiseTo, passes, raiseAtom}
+use Rattle.model.specs.Atom.Atom.{inRange}
+use Rattle.model.specs.Structure.{build}
+use Rattle.lattice.proofs.Valid.{Valid}
+use Rattle.lattice.proofs.Tests.{not-true}
+use Rattle.lattice.proofs.Structures.{Least, Regular}
+use Rattle.lattice.proofs.Bases.{IsBasis, basis-iff, build-basis}
+use Rattle.lattice.proofs.Sets.{Passes, passes-regular, passes-least}
+
+passes-iff : (b : Bool) (lo hi v : ℕ) → (passes b lo hi v ≡ true) ↔ (between lo hi v ≡ b)
+unfolding passes
+passes-iff true lo hi v = (λ h. h, λ h. h)
+passes-iff false lo hi v = not-true (between lo hi v)
+
+module _ (K : Computation) (ok : Valid K) where
+  -- What build makes of a function that finds the least cuts of a set, with no bars.
+  plain-basis : (P X : Cut → Type 0) → Regular K P → (f : Cut → Option Cut) → ((c : Cut) → Consistent K c → Least P (λ e. c ⊑ e) (f c))
+      → ((c : Cut) → Consistent K c → P c ↔ X c) → IsBasis K (build K f []) X
+  unfolding insideAny
+  plain-basis P X reg f least same = basis-iff (λ c q. (λ u. same c q .0 (u .0), λ u. (same c q .1 u, refl))) (build-basis K ok reg f least [])
+
+  -- Of an atom that looks at the count of one station.
+  counted-basis : (s : ℕ) (p : ℕ → Bool) (X : Cut → Type 0) → ((c : Cut) → Consistent K c → Passes K ok s p c ↔ X c) → IsBasis K (build K (raiseTo K s p) []) X
+  counted-basis s p X = plain-basis (Passes K ok s p) X (passes-regular K ok s p) (raiseTo K s p) (passes-least K ok s p)
+
+  pub literal-basis : (b : Bool) (a : Atom) → IsBasis K (build K (raiseAtom K b a) []) (λ c. isTrue K a c ≡ b)
+  unfolding raiseAtom isTrue
+  literal-basis b (inRange s lo hi) =
+      counted-basis s (λ k. passes b lo hi (value K s k)) _ (λ c q. (λ u. passes-iff b lo hi _ .0 (u .1), λ u. (q, passes-iff b lo hi _ .1 u)))

@@ -1,0 +1,64 @@
+-- Atoms, the tokens of a formula that are no signs: their bytes, when one is true, and how a cut is raised to one at which it is.
+use Prim.Native.Nat.{ℕ, zero, suc, _-_, _/_, _%_}
+use mathlib.Core.Bool.{Bool, true, false, cond, not, _&&_}
+use mathlib.Core.List.{List, [], _∷_}
+use mathlib.Core.Option.{Option, none, some}
+use lib.ListN.{drop, getD}
+use lib.Dec.{leb, ltb, eqb}
+use Rattle.model.specs.Lists.{between}
+use Rattle.model.specs.Frames.{word}
+use Rattle.model.specs.Cut.{Cut, _!_, join}
+use Rattle.model.specs.Computation.{Computation, count, clock, value}
+
+pub data Atom : Type 0 where
+  -- 01, station, lo, hi: the station's value is from lo to hi
+  inRange : ℕ → ℕ → ℕ → Atom
+
+-- BYTES
+
+-- The token byte and what follows it.
+unfoldable pub atomBytes : Atom → List ℕ
+atomBytes (inRange s lo hi) = 0x01 ∷ s ∷ (lo / 256) ∷ (lo % 256) ∷ (hi / 256) ∷ (hi % 256) ∷ []
+
+-- How many bytes follow the token byte of an atom; none if the token is no atom's.
+unfoldable pub operands : ℕ → Option ℕ
+operands t = cond (eqb t 0x01) (some 5) none
+
+-- The atom of a token byte and the bytes that follow.
+unfoldable pub atomOf : ℕ → List ℕ → Atom
+atomOf t q = inRange (getD q 0 0) (word (drop 1 q)) (word (drop 3 q))
+
+-- Of n stations each that is named is there, and lo is not above hi.
+unfoldable pub soundAtom : ℕ → Atom → Bool
+soundAtom n (inRange s lo hi) = ltb s n && leb lo hi
+
+-- TRUTH
+
+-- Is the atom true at the cut? If not, it is false there.
+unfoldable pub isTrue : Computation → Atom → Cut → Bool
+isTrue K (inRange s lo hi) c = between lo hi (value K s (c ! s))
+
+-- RAISING: the least consistent cut that contains c and at which an atom is true, or false; or none
+
+-- The first of the m numbers from k on that passes the test.
+unfoldable pub next : (ℕ → Bool) → ℕ → ℕ → Option ℕ
+next p zero k = none
+next p (suc m) k = cond (p k) (some k) (next p m (suc k))
+
+-- c joined with the clock of event k of station s, where there is such a k.
+unfoldable pub upTo : Computation → ℕ → Cut → Option ℕ → Option Cut
+upTo K s c none = none
+upTo K s c (some k) = some (join c (clock K s k))
+
+-- c joined with the clock of the first event of station s, from the last one in c on, that passes the test.
+unfoldable pub raiseTo : Computation → ℕ → (ℕ → Bool) → Cut → Option Cut
+raiseTo K s p c = upTo K s c (next p (suc (count K s) - c ! s) (c ! s))
+
+-- Does a value pass a range, as true or as false?
+unfoldable pub passes : Bool → ℕ → ℕ → ℕ → Bool
+passes true lo hi v = between lo hi v
+passes false lo hi v = not (between lo hi v)
+
+-- For an atom as true, or as false: 01 looks for a value of its station.
+unfoldable pub raiseAtom : Computation → Bool → Atom → Cut → Option Cut
+raiseAtom K b (inRange s lo hi) c = raiseTo K s (λ k. passes b lo hi (value K s k)) c
