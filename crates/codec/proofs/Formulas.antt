@@ -1,32 +1,34 @@
 -- Formulas and their prefix forms. Reading needs no more fuel than there are bytes, so it obeys two step laws;
 -- and what bytes spell is told by a relation, one constructor a token, from which all the rest follows.
-use mathlib.Core.Path.{_≡_, refl, sym, ap, ap₂, _∙_}
-use mathlib.Core.Bool.{Bool, true, false}
+use mathlib.Core.Path.{_≡_, refl, sym, ap, _∙_}
+use mathlib.Core.Bool.{true}
 use mathlib.Core.List.{List, [], _∷_, _++_, append-assoc, append-nil}
 use mathlib.Core.Option.{Option, none, some}
-use Prim.Native.Nat.{ℕ, zero, suc, _+_, _*_, _/_, _%_, _<_, _≤_}
+use Prim.Native.Nat.{ℕ, zero, suc, _+_, _*_, _<_, _≤_}
 use native.Mathlib.Omega.{arith}
-use lib.Dec.{eqb}
-use lib.ListN.{length, drop, length-append, length-drop}
-use borrow.Author.Tests.{le-leb, eqb-true}
+use lib.Dec.{leb, eqb}
+use lib.ListN.{length, drop, length-append, length-drop, take-append-drop}
+use lib.Seq.{drop-append-seam}
+use borrow.Author.Tests.{leb-true, le-leb, eqb-true}
 use Rattle.model.specs.Lists.{sum}
-use Rattle.model.specs.Frames.{word}
+use Rattle.model.specs.Atom.{operands, atomOf}
 use Rattle.model.specs.Formula.{Formula, prefix, ahead, one, two, sign, token, spelt, formulasIn, single, formulaOf, weigh, tokens, atoms}
-use Rattle.model.specs.Formula.Formula.{inRange, not, and, or, possibly, always}
+use Rattle.model.specs.Formula.Formula.{atom, not, and, or, possibly, always}
 use Rattle.codec.specs.Formulas.{formulas}
-use Rattle.codec.proofs.Bytes.{Bytes, bytes-cons, bytes-append}
+use Rattle.codec.proofs.Bytes.{Bytes, bytes-cons, bytes-append, bytes-tail, bytes-drop}
 use Rattle.codec.proofs.Cases.{none-some, cases}
+use Rattle.codec.proofs.Atoms.{sign-none, operands-small, spelling, SmallAtom, atom-bytes, bytes-atom}
 
 -- FUEL
 
 -- What is made of a token depends only on what is made of the bytes after it.
 token-same :
-    (go on : List ℕ → Option (List Formula)) (t : ℕ) (q : List ℕ) (b : Bool)
+    (go on : List ℕ → Option (List Formula)) (t : ℕ) (q : List ℕ) (o : Option ℕ)
     → ((p : List ℕ) → length p ≤ length q → go p ≡ on p)
-    → token go t q b ≡ token on t q b
+    → token go t q o ≡ token on t q o
 unfolding token
-token-same go on t q true e = rw (e (drop 5 q) (simp length-drop (omega arith)))
-token-same go on t q false e = rw (e q (omega arith))
+token-same go on t q (some k) e = rw (e (drop k q) (simp length-drop (omega arith)))
+token-same go on t q none e = rw (e q (omega arith))
 
 -- Any two amounts of fuel that suffice give the same.
 fuel : (m k : ℕ) (q : List ℕ) → length q < m → length q < k → formulasIn m q ≡ formulasIn k q
@@ -34,7 +36,7 @@ unfolding formulasIn spelt
 fuel zero k q h g = absurd (omega arith)
 fuel (suc m) zero q h g = absurd (omega arith)
 fuel (suc m) (suc k) [] h g = refl
-fuel (suc m) (suc k) (t ∷ q) h g = token-same (formulasIn m) (formulasIn k) t q (eqb t 1) (λ p l. fuel m k p (omega arith) (omega arith))
+fuel (suc m) (suc k) (t ∷ q) h g = token-same (formulasIn m) (formulasIn k) t q (operands t) (λ p l. fuel m k p (omega arith) (omega arith))
 
 -- Fuel does not matter.
 pub formulas-in : (m : ℕ) (q : List ℕ) → length q < m → formulasIn m q ≡ formulas q
@@ -45,9 +47,18 @@ pub formulas-none : formulas [] ≡ some []
 unfolding formulasIn spelt
 formulas-none = refl
 
-pub formulas-token : (t : ℕ) (q : List ℕ) → formulas (t ∷ q) ≡ token formulas t q (eqb t 1)
+pub formulas-token : (t : ℕ) (q : List ℕ) → formulas (t ∷ q) ≡ token formulas t q (operands t)
 unfolding formulasIn spelt
-formulas-token t q = token-same (formulasIn (suc (length q))) formulas t q (eqb t 1) (λ p l. formulas-in (suc (length q)) p (omega arith))
+formulas-token t q = token-same (formulasIn (suc (length q))) formulas t q (operands t) (λ p l. formulas-in (suc (length q)) p (omega arith))
+
+-- An atom's token is followed by its bytes, any other by what its sign takes.
+pub formulas-atom : (t k : ℕ) (q : List ℕ) → operands t ≡ some k → k ≤ length q → formulas (t ∷ q) ≡ ahead (atom (atomOf t q)) (formulas (drop k q))
+unfolding token
+formulas-atom t k q e h = formulas-token t q ∙ rw (e, le-leb k (length q) h)
+
+pub formulas-sign : (t : ℕ) (q : List ℕ) → operands t ≡ none → formulas (t ∷ q) ≡ sign t (formulas q)
+unfolding token
+formulas-sign t q e = formulas-token t q ∙ rw e
 
 -- THE PREFIX FORM READS BACK
 
@@ -63,19 +74,20 @@ two-ahead c f g (some l) = refl
 
 -- A prefix form in front of bytes brings its formula in front of theirs.
 pub formulas-prefix : (f : Formula) (q : List ℕ) → formulas (prefix f ++ q) ≡ ahead f (formulas q)
-unfolding prefix token sign word
-formulas-prefix (inRange s lo hi) q =
-    formulas-token 1 (s ∷ (lo / 256) ∷ (lo % 256) ∷ (hi / 256) ∷ (hi % 256) ∷ q)
-    ∙ rw (le-leb 5 (suc (suc (suc (suc (suc (length q)))))) (omega arith)) (ap₂ (λ (a b : ℕ). ahead (inRange s a b) (formulas q)) (omega arith) (omega arith))
-formulas-prefix (not f) q = formulas-token 2 (prefix f ++ q) ∙ rw (formulas-prefix f q) (one-ahead not f (formulas q))
+unfolding prefix sign
+formulas-prefix (atom a) q =
+    let s = spelling a in
+    rw (s .are) (formulas-atom (s .token) (length (s .bytes)) (s .bytes ++ q) (s .many) (omega (arith, length-append (s .bytes) q))
+    ∙ rw (s .back q, drop-append-seam (s .bytes) q))
+formulas-prefix (not f) q = formulas-sign 2 (prefix f ++ q) (sign-none 2 (omega arith) (omega arith)) ∙ rw (formulas-prefix f q) (one-ahead not f (formulas q))
 formulas-prefix (and f g) q =
-    formulas-token 3 ((prefix f ++ prefix g) ++ q)
+    formulas-sign 3 ((prefix f ++ prefix g) ++ q) (sign-none 3 (omega arith) (omega arith))
     ∙ rw (append-assoc (prefix f) (prefix g) q, formulas-prefix f (prefix g ++ q), formulas-prefix g q) (two-ahead and f g (formulas q))
 formulas-prefix (or f g) q =
-    formulas-token 4 ((prefix f ++ prefix g) ++ q)
+    formulas-sign 4 ((prefix f ++ prefix g) ++ q) (sign-none 4 (omega arith) (omega arith))
     ∙ rw (append-assoc (prefix f) (prefix g) q, formulas-prefix f (prefix g ++ q), formulas-prefix g q) (two-ahead or f g (formulas q))
-formulas-prefix (possibly f) q = formulas-token 5 (prefix f ++ q) ∙ rw (formulas-prefix f q) (one-ahead possibly f (formulas q))
-formulas-prefix (always f) q = formulas-token 6 (prefix f ++ q) ∙ rw (formulas-prefix f q) (one-ahead always f (formulas q))
+formulas-prefix (possibly f) q = formulas-sign 5 (prefix f ++ q) (sign-none 5 (omega arith) (omega arith)) ∙ rw (formulas-prefix f q) (one-ahead possibly f (formulas q))
+formulas-prefix (always f) q = formulas-sign 6 (prefix f ++ q) (sign-none 6 (omega arith) (omega arith)) ∙ rw (formulas-prefix f q) (one-ahead always f (formulas q))
 
 -- A prefix form spells its formula.
 pub formula-prefix : (f : Formula) → formulaOf (prefix f) ≡ some f
@@ -89,7 +101,7 @@ formula-prefix f =
 -- The bytes q spell the formulas l, one after another.
 pub data Spells : List ℕ → List Formula → Type 0 where
   s-none : Spells [] []
-  s-range : {s a b c d : ℕ} {q : List ℕ} {l : List Formula} → Spells q l → Spells (0x01 ∷ s ∷ a ∷ b ∷ c ∷ d ∷ q) (inRange s (256 * a + b) (256 * c + d) ∷ l)
+  s-atom : {t k : ℕ} {q : List ℕ} {l : List Formula} → operands t ≡ some k → k ≤ length q → Spells (drop k q) l → Spells (t ∷ q) (atom (atomOf t q) ∷ l)
   s-not : {q : List ℕ} {f : Formula} {l : List Formula} → Spells q (f ∷ l) → Spells (0x02 ∷ q) (not f ∷ l)
   s-and : {q : List ℕ} {f g : Formula} {l : List Formula} → Spells q (f ∷ g ∷ l) → Spells (0x03 ∷ q) (and f g ∷ l)
   s-or : {q : List ℕ} {f g : Formula} {l : List Formula} → Spells q (f ∷ g ∷ l) → Spells (0x04 ∷ q) (or f g ∷ l)
@@ -142,27 +154,20 @@ module _ (go : List ℕ → Option (List Formula)) (reads : Reads go) (q : List 
       cases (eqb t 6) e (λ k e. by-one always t 6 k e (λ f r. s-always)) (λ k e.
       none-some e)))))
 
-by-range : (go : List ℕ → Option (List Formula)) (reads : Reads go) (t : ℕ) (q : List ℕ) (l : List Formula) → t ≡ 1 → token go t q true ≡ some l → Spells (t ∷ q) l
-unfolding token word
-by-range go reads t [] l h e = none-some e
-by-range go reads t (s ∷ []) l h e = none-some e
-by-range go reads t (s ∷ a ∷ []) l h e = none-some e
-by-range go reads t (s ∷ a ∷ b ∷ []) l h e = none-some e
-by-range go reads t (s ∷ a ∷ b ∷ c ∷ []) l h e = none-some e
-by-range go reads t (s ∷ a ∷ b ∷ c ∷ d ∷ q) l h e =
-    let x = ahead-some (inRange s (256 * a + b) (256 * c + d)) (go q) l (rw (le-leb 5 (suc (suc (suc (suc (suc (length q)))))) (omega arith)) at e) in
-    rw (h, x .2) (s-range (reads q _ (x .1)))
-
-by-token : (go : List ℕ → Option (List Formula)) (reads : Reads go) (t : ℕ) (q : List ℕ) (l : List Formula) (b : Bool) → eqb t 1 ≡ b → token go t q b ≡ some l → Spells (t ∷ q) l
+by-token : (go : List ℕ → Option (List Formula)) (reads : Reads go) (t : ℕ) (q : List ℕ) (l : List Formula) (o : Option ℕ) → operands t ≡ o → token go t q o ≡ some l → Spells (t ∷ q) l
 unfolding token
-by-token go reads t q l true h e = by-range go reads t q l (eqb-true t 1 h) e
-by-token go reads t q l false h e = by-sign go reads q l t e
+by-token go reads t q l (some k) h e =
+    cases (leb k (length q)) e (λ b e.
+    let x = ahead-some (atom (atomOf t q)) (go (drop k q)) l e in
+    rw (x .2) (s-atom h (leb-true k (length q) b) (reads (drop k q) _ (x .1))))
+    (λ b e. none-some e)
+by-token go reads t q l none h e = by-sign go reads q l t e
 
 reads-in : (m : ℕ) → Reads (formulasIn m)
 unfolding formulasIn spelt
 reads-in zero q l e = none-some e
 reads-in (suc m) [] l e = let n : l ≡ [] = cc in rw n s-none
-reads-in (suc m) (t ∷ q) l e = by-token (formulasIn m) (reads-in m) t q l (eqb t 1) refl e
+reads-in (suc m) (t ∷ q) l e = by-token (formulasIn m) (reads-in m) t q l (operands t) refl e
 
 -- Formulas that are read from bytes are spelt by them.
 pub formulas-spell : (q : List ℕ) (l : List Formula) → formulas q ≡ some l → Spells q l
@@ -170,9 +175,9 @@ formulas-spell q l e = reads-in (suc (length q)) q l e
 
 -- THE BYTES THAT SPELL A FORMULA ARE ITS PREFIX FORM
 
--- Stations fit a byte, lo and hi two bytes.
+-- What each atom names fits its bytes.
 abbrev pub Small : Formula → Type 0
-Small (inRange s lo hi) = (s < 256) × (lo < 65536) × (hi < 65536)
+Small (atom a) = SmallAtom a
 Small (not f) = Small f
 Small (and f g) = Small f × Small g
 Small (or f g) = Small f × Small g
@@ -192,18 +197,11 @@ prefixes (f ∷ l) = prefix f ++ prefixes l
 spelt-by : {q : List ℕ} {l : List Formula} → Spells q l → Bytes q → (prefixes l ≡ q) × Smalls l
 unfolding prefixes prefix
 spelt-by s-none h = (refl, tt)
-spelt-by (s-range {s = s} {a = a} {b = b} {c = c} {d = d} {q = q} {l = l} r) h =
-    let hs : s < 256 = h 1 in
-    let ha : a < 256 = h 2 in
-    let hb : b < 256 = h 3 in
-    let hc : c < 256 = h 4 in
-    let hd : d < 256 = h 5 in
-    let ih = spelt-by r (λ i. h (suc (suc (suc (suc (suc (suc i))))))) in
-    let ea : (256 * a + b) / 256 ≡ a = omega arith in
-    let eb : (256 * a + b) % 256 ≡ b = omega arith in
-    let ec : (256 * c + d) / 256 ≡ c = omega arith in
-    let ed : (256 * c + d) % 256 ≡ d = omega arith in
-    (rw (ea, eb, ec, ed, ih .0), ((hs, omega arith, omega arith), ih .1))
+spelt-by (s-atom {t = t} {k = k} {q = q} e g r) h =
+    let b = bytes-tail t q h in
+    let x = atom-bytes t k q e g b in
+    let ih = spelt-by r (bytes-drop k q b) in
+    (rw (x .0, ih .0) (ap (λ (p : List ℕ). t ∷ p) (take-append-drop k q)), (x .1, ih .1))
 spelt-by (s-not r) h = let ih = spelt-by r (λ i. h (suc i)) in (ap (λ (x : List ℕ). 0x02 ∷ x) (ih .0), ih .1)
 spelt-by (s-and {f = f} {g = g} {l = l} r) h =
     let ih = spelt-by r (λ i. h (suc i)) in
@@ -237,20 +235,10 @@ prefix-formula q f h e =
     let x = prefixes-formulas q (f ∷ []) h (formulas-formula q f e) in
     (sym (append-nil (prefix f)) ∙ x .0, x .1 .0)
 
-bytes-range : (s lo hi : ℕ) → s < 256 → lo < 65536 → hi < 65536 → Bytes (prefix (inRange s lo hi))
-unfolding prefix
-bytes-range s lo hi h g k zero = omega arith
-bytes-range s lo hi h g k (suc zero) = h
-bytes-range s lo hi h g k (suc (suc zero)) = omega arith
-bytes-range s lo hi h g k (suc (suc (suc zero))) = omega arith
-bytes-range s lo hi h g k (suc (suc (suc (suc zero)))) = omega arith
-bytes-range s lo hi h g k (suc (suc (suc (suc (suc zero))))) = omega arith
-bytes-range s lo hi h g k (suc (suc (suc (suc (suc (suc i)))))) = omega arith
-
 -- The prefix form of a small formula is bytes.
 pub bytes-prefix : (f : Formula) → Small f → Bytes (prefix f)
 unfolding prefix
-bytes-prefix (inRange s lo hi) h = bytes-range s lo hi (h .0) (h .1) (h .2)
+bytes-prefix (atom a) h = bytes-atom a h
 bytes-prefix (not f) h = bytes-cons 0x02 (prefix f) (omega arith) (bytes-prefix f h)
 bytes-prefix (and f g) h = bytes-cons 0x03 (prefix f ++ prefix g) (omega arith) (bytes-append (prefix f) (prefix g) (bytes-prefix f (h .0)) (bytes-prefix g (h .1)))
 bytes-prefix (or f g) h = bytes-cons 0x04 (prefix f ++ prefix g) (omega arith) (bytes-append (prefix f) (prefix g) (bytes-prefix f (h .0)) (bytes-prefix g (h .1)))
@@ -259,30 +247,27 @@ bytes-prefix (always f) h = bytes-cons 0x06 (prefix f) (omega arith) (bytes-pref
 
 -- LENGTHS
 
--- A byte for each token, and five more for each 01.
+-- A byte for each token, and at most five more for each atom.
 abbrev pub size : Formula → ℕ
 size f = tokens f + 5 * atoms f
 
-pub length-prefix : (f : Formula) → length (prefix f) ≡ size f
-unfolding prefix weigh
-length-prefix (inRange s lo hi) = refl
-length-prefix (not f) = omega (arith, length-prefix f)
-length-prefix (and f g) = omega (arith, length-append (prefix f) (prefix g), length-prefix f, length-prefix g)
-length-prefix (or f g) = omega (arith, length-append (prefix f) (prefix g), length-prefix f, length-prefix g)
-length-prefix (possibly f) = omega (arith, length-prefix f)
-length-prefix (always f) = omega (arith, length-prefix f)
-
-length-spelt : {q : List ℕ} {l : List Formula} → Spells q l → length q ≡ sum size l
+length-spelt : {q : List ℕ} {l : List Formula} → Spells q l → length q ≤ sum size l
 unfolding sum weigh
-length-spelt s-none = refl
-length-spelt (s-range r) = omega (arith, length-spelt r)
+length-spelt s-none = omega arith
+length-spelt (s-atom {t = t} {k = k} {q = q} e g r) = omega (arith, length-spelt r, length-drop k q, operands-small t k e)
 length-spelt (s-not r) = omega (arith, length-spelt r)
 length-spelt (s-and r) = omega (arith, length-spelt r)
 length-spelt (s-or r) = omega (arith, length-spelt r)
 length-spelt (s-possibly r) = omega (arith, length-spelt r)
 length-spelt (s-always r) = omega (arith, length-spelt r)
 
--- What spells a formula is as long as its prefix form, even where not all numbers are bytes.
-pub length-formula : (q : List ℕ) (f : Formula) → formulaOf q ≡ some f → length q ≡ size f
+pub length-formula : (q : List ℕ) (f : Formula) → formulaOf q ≡ some f → length q ≤ size f
 unfolding sum
 length-formula q f e = omega (arith, length-spelt (formulas-spell q (f ∷ []) (formulas-formula q f e)))
+
+-- Only no bytes spell no formula.
+spelt-none : {q : List ℕ} → Spells q [] → q ≡ []
+spelt-none s-none = refl
+
+pub formulas-empty : (q : List ℕ) → formulas q ≡ some [] → q ≡ []
+formulas-empty q e = spelt-none (formulas-spell q [] e)

@@ -1,6 +1,7 @@
 pub mod Bytes
 pub mod Cases
 pub mod Snoc
+pub mod Atoms
 pub mod Formulas
 pub mod Frames
 pub mod Hex

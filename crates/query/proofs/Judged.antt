@@ -7,13 +7,13 @@ use Prim.Native.Nat.{ℕ, _<_, _≤_}
 use native.Mathlib.Omega.{arith}
 use borrow.Author.Tests.{le-leb, lt-leb}
 use lib.Dec.{leb}
-use lib.ListN.{length, drop-of-length-le}
-use Rattle.model.specs.Formula.{Formula, ahead, single, formulaOf, tokens, atoms, sound}
+use lib.ListN.{length, drop, length-drop, drop-of-length-le}
+use Rattle.model.specs.Formula.{Formula, ahead, single, formulaOf}
 use Rattle.model.specs.Size.{narrow, fits}
 use Rattle.model.specs.Rules.{asTrue}
 use Rattle.codec.proofs.Cases.{none-some}
 use Rattle.codec.specs.Formulas.{formulas}
-use Rattle.codec.proofs.Formulas.{formulas-none, formulas-formula, length-formula}
+use Rattle.codec.proofs.Formulas.{formulas-none, formulas-formula, formulas-empty}
 use Rattle.query.specs.declared.Extent.the-variants.{Wide, Narrow}
 use Rattle.query.specs.declared.Size.{Size}
 use Rattle.query.specs.Judged.{judged}
@@ -32,10 +32,10 @@ pub judged-nothing : (n : ℕ) (q : List ℕ) → first (formulas q) ≡ none �
 unfolding judged formulaOf
 judged-nothing n q h = rw (single-first (formulas q) h)
 
-ahead-same : (f g : Formula) (o : Option (List Formula)) → ahead f o ≡ some (g ∷ []) → f ≡ g
+ahead-alone : (f g : Formula) (o : Option (List Formula)) → ahead f o ≡ some (g ∷ []) → o ≡ some []
 unfolding ahead
-ahead-same f g none e = none-some e
-ahead-same f g (some l) e = cc
+ahead-alone f g none e = none-some e
+ahead-alone f g (some l) e = cc
 
 module _ {n : ℕ} {q : List ℕ} {z : Size} (x : Sized n true q z) where
   pub judged-more : (z .used ≡ length q → ⊥) → some 8 ≡ judged n (formulaOf q)
@@ -45,8 +45,8 @@ module _ {n : ℕ} {q : List ℕ} {z : Size} (x : Sized n true q z) where
       go : (o : Option Formula) → formulaOf q ≡ o → some 8 ≡ judged n o
       go none e = refl
       go (some g) e =
-          let f : x .formula ≡ g = ahead-same (x .formula) g _ (sym (x .reads) ∙ formulas-formula q g e) in
-          absurd (h (omega (arith, length-formula q g e, ap tokens f, ap atoms f, x .tokens, x .atoms, x .bytes)))
+          let r : formulas (drop (z .used) q) ≡ some [] = ahead-alone (x .formula) g _ (sym (x .reads) ∙ formulas-formula q g e) in
+          absurd (h (omega (arith, ap length (formulas-empty (drop (z .used) q) r), length-drop (z .used) q, x .within)))
 
   -- EXACTLY ONE FORMULA
 
@@ -60,7 +60,7 @@ module _ {n : ℕ} {q : List ℕ} {z : Size} (x : Sized n true q z) where
     judged-order s = simp (one-formula, sym (x .ordered) ∙ s)
 
     module _ (s : z .sound ≡ true) where
-      -- With stations and ranges in order only the size is left.
+      -- With sound atoms only the size is left.
       by-size : judged n (formulaOf q) ≡ cond (leb (z .tokens) 32 && leb (z .atoms) 12 && narrow (asTrue (x .formula))) none (some 9)
       unfolding judged fits
       by-size = simp (one-formula, sym (x .ordered) ∙ s, x .tokens, x .atoms)

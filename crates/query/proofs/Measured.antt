@@ -2,23 +2,24 @@
 use mathlib.Core.Path.{_≡_, refl, sym, ap, ap₂, _∙_}
 use mathlib.Core.Bool.{Bool, true, false, _&&_, Bool·beq, not as negated}
 use mathlib.Core.List.{List, [], _∷_}
-use mathlib.Core.Option.{Option, none}
-use Prim.Native.Nat.{ℕ, _+_, _*_, _<_, _≤_}
+use mathlib.Core.Option.{Option, none, some}
+use Prim.Native.Nat.{ℕ, suc, _+_, _<_, _≤_}
 use native.Mathlib.Numerals.{add-one}
 use native.Mathlib.Omega.{arith}
-use lib.Dec.{leb, ltb, eqb}
+use lib.Dec.{eqb}
 use lib.ListN.{length, drop, getD, length-drop}
-use lib.Seq.{drop-drop, getD-drop}
-use borrow.Author.Tests.{le-leb, lt-leb, eqb-true, eqb-false, ne-eqb}
-use Rattle.model.specs.Frames.{word}
+use lib.Seq.{drop-drop}
+use borrow.Author.Tests.{lt-leb, eqb-true, eqb-false, ne-eqb}
+use Rattle.model.specs.Atom.{Atom, operands, atomOf, soundAtom}
 use Rattle.model.specs.Formula.{Formula, ahead, one, two, sign, token, weigh, tokens, atoms, sound}
-use Rattle.model.specs.Formula.Formula.{inRange, not, and}
+use Rattle.model.specs.Formula.Formula.{atom, not, and}
 use Rattle.model.specs.Rules.{Normal, asTrue, asFalse}
 use Rattle.model.specs.Size.{width, bars, slim, narrow}
 use Rattle.lattice.specs.Signed.{normal, two as joining, modal, joinedForm, liftedForm}
 use Rattle.lattice.proofs.Signed.{normal-not, normal-two, normal-modal, weigh-two, weigh-modal, sound-two, sound-modal}
 use Rattle.codec.specs.Formulas.{formulas}
-use Rattle.codec.proofs.Formulas.{formulas-none, formulas-token, one-ahead, two-ahead}
+use Rattle.codec.proofs.Atoms.{sign-none}
+use Rattle.codec.proofs.Formulas.{formulas-none, formulas-token, formulas-atom, formulas-sign, one-ahead, two-ahead}
 use Rattle.query.specs.declared.Extent.{Extent}
 use Rattle.query.specs.declared.Extent.the-variants.{Narrow}
 use Rattle.query.specs.declared.Size.{Size}
@@ -54,14 +55,14 @@ sign-modal t o h l = go (eqb t 5) refl
 
 -- THE RULES UNDER A SIGN
 
-extent-range : (s : Bool) (a lo hi : ℕ) → Narrow 1 0 ≡ extentOf (normal s (inRange a lo hi))
+extent-atom : (s : Bool) (a : Atom) → Narrow 1 0 ≡ extentOf (normal s (atom a))
 unfolding extentOf asTrue asFalse narrow slim width bars
-extent-range true a lo hi = refl
-extent-range false a lo hi = refl
+extent-atom true a = refl
+extent-atom false a = refl
 
 -- COUNTS
 
--- A sign of one operand adds a token that is no 01.
+-- A sign of one operand adds a token that is no atom.
 record Unary (n : ℕ) (c : Formula → Formula) : Type 0 where
   pub more : (f : Formula) → tokens (c f) ≡ 1 + tokens f
   pub same : (f : Formula) → atoms (c f) ≡ 0 + atoms f
@@ -89,31 +90,31 @@ pub measured-brief : (n : ℕ) (s : Bool) (q : List ℕ) (p : Front) → length 
 measured-brief n s q Nothing h x = tt
 measured-brief n s q (One z) h x = sized-short h x
 
--- A TOKEN 01
+-- AN ATOM
 
-pub nothing-range : (q : List ℕ) → length q < 5 → first (formulas (1 ∷ q)) ≡ none
-unfolding token first
-nothing-range q h = rw (formulas-token 1 q, lt-leb 5 (length q) h)
+module _ (t k : ℕ) (q : List ℕ) (e : operands t ≡ some k) where
+  pub nothing-atom : length q < k → first (formulas (t ∷ q)) ≡ none
+  unfolding token first
+  nothing-atom h = rw (formulas-token t q, e, lt-leb k (length q) h)
 
-pub sized-range :
-    (n : ℕ) (s : Bool) (q : List ℕ) {lo hi : ℕ} {b : Bool}
-    → 5 ≤ length q
-    → lo ≡ 256 * getD q 1 0 + getD q 2 0
-    → hi ≡ 256 * getD q 3 0 + getD q 4 0
-    → b ≡ (ltb (getD q 0 0) n && leb lo hi)
-    → Sized n s (1 ∷ q) (record { used = 6; tokens = 1; atoms = 1; sound = b; extent = Narrow 1 0 })
-unfolding token weigh sound word
-sized-range n s q h l u e =
-    record {
-      formula = inRange (getD q 0 0) (word (drop 1 q)) (word (drop 3 q));
-      reads = rw (formulas-token 1 q, le-leb 5 (length q) h);
-      within = omega arith;
-      bytes = omega arith;
-      tokens = refl;
-      atoms = refl;
-      ordered = rw (e, l, u) (simp getD-drop);
-      extent = extent-range s _ _ _;
-    }
+  pub sized-atom :
+      (n : ℕ) (s : Bool) {b : Bool}
+      → k ≤ length q
+      → b ≡ soundAtom n (atomOf t q)
+      → Sized n s (t ∷ q) (record { used = suc k; tokens = 1; atoms = 1; sound = b; extent = Narrow 1 0 })
+  unfolding weigh sound
+  sized-atom n s h o =
+      record {
+        formula = atom (atomOf t q);
+        reads = formulas-atom t k q e h;
+        within = omega arith;
+        few-tokens = omega arith;
+        few-atoms = omega arith;
+        tokens = refl;
+        atoms = refl;
+        ordered = o;
+        extent = extent-atom s (atomOf t q);
+      }
 
 -- NO TOKEN
 
@@ -122,20 +123,11 @@ unfolding first
 nothing-empty [] h = rw formulas-none
 nothing-empty (t ∷ q) h = absurd (omega arith)
 
-module _ (t : ℕ) (q : List ℕ) where
-  signed : (t ≡ 1 → ⊥) → formulas (t ∷ q) ≡ sign t (formulas q)
-  unfolding token
-  signed h = rw (formulas-token t q, ne-eqb t 1 h)
-
-  pub nothing-zero : t ≡ 0 → first (formulas (t ∷ q)) ≡ none
-  unfolding sign first
-  nothing-zero h = ap first (signed (λ o. omega arith)) ∙ rw h
-
-  pub nothing-above : 6 < t → first (formulas (t ∷ q)) ≡ none
-  unfolding sign first
-  nothing-above h =
-      ap first (signed (λ o. omega arith))
-      ∙ simp (ne-eqb t 2 (λ o. omega arith), ne-eqb t 3 (λ o. omega arith), ne-eqb t 4 (λ o. omega arith), ne-eqb t 5 (λ o. omega arith), ne-eqb t 6 (λ o. omega arith))
+pub nothing-unknown : (t : ℕ) (q : List ℕ) → operands t ≡ none → (1 < t → t < 7 → ⊥) → first (formulas (t ∷ q)) ≡ none
+unfolding sign first
+nothing-unknown t q e h =
+    ap first (formulas-sign t q e)
+    ∙ simp (ne-eqb t 2 (λ o. h (omega arith) (omega arith)), ne-eqb t 3 (λ o. h (omega arith) (omega arith)), ne-eqb t 4 (λ o. h (omega arith) (omega arith)), ne-eqb t 5 (λ o. h (omega arith) (omega arith)), ne-eqb t 6 (λ o. h (omega arith) (omega arith)))
 
 -- ONE OPERAND
 
@@ -153,7 +145,8 @@ sized-one {t = t} {q = q} {z = z} {r = r} c u k x i l =
       formula = c (x .formula);
       reads = k ∙ ap (one c) (x .reads) ∙ one-ahead c (x .formula) _ ∙ ap (λ (p : List ℕ). ahead (c (x .formula)) (formulas p)) (sym d);
       within = omega arith;
-      bytes = omega arith;
+      few-tokens = omega arith;
+      few-atoms = omega arith;
       tokens = omega (arith, u .more (x .formula));
       atoms = omega (arith, u .same (x .formula));
       ordered = l .ordered ∙ x .ordered ∙ sym (u .order (x .formula));
@@ -161,8 +154,8 @@ sized-one {t = t} {q = q} {z = z} {r = r} c u k x i l =
     }
 
 spelt-not : (q : List ℕ) → formulas (2 ∷ q) ≡ one not (formulas q)
-unfolding token sign
-spelt-not q = formulas-token 2 q
+unfolding sign
+spelt-not q = formulas-sign 2 q (sign-none 2 (omega arith) (omega arith))
 
 pub nothing-not : (q : List ℕ) → first (formulas q) ≡ none → first (formulas (2 ∷ q)) ≡ none
 nothing-not q p = ap first (spelt-not q) ∙ one-first not (formulas q) p
@@ -172,7 +165,7 @@ sized-not {n} {s} {q} x l = sized-one not (unary-not n) (spelt-not q) x (x .exte
 
 module _ (t : ℕ) (h : 4 < t) (l : t < 7) (q : List ℕ) where
   spelt-modal : formulas (t ∷ q) ≡ one (modal (eqb t 5)) (formulas q)
-  spelt-modal = signed t q (λ o. omega arith) ∙ sign-modal t (formulas q) h l
+  spelt-modal = formulas-sign t q (sign-none t (omega arith) (omega arith)) ∙ sign-modal t (formulas q) h l
 
   pub nothing-modal : first (formulas q) ≡ none → first (formulas (t ∷ q)) ≡ none
   nothing-modal p = ap first spelt-modal ∙ one-first (modal (eqb t 5)) (formulas q) p
@@ -191,7 +184,7 @@ module _ (t : ℕ) (h : 4 < t) (l : t < 7) (q : List ℕ) where
 
 module _ (t : ℕ) (h : 2 < t) (l : t < 5) (q : List ℕ) where
   spelt-two : formulas (t ∷ q) ≡ two (joining (eqb t 3)) (formulas q)
-  spelt-two = signed t q (λ o. omega arith) ∙ sign-two t (formulas q) h l
+  spelt-two = formulas-sign t q (sign-none t (omega arith) (omega arith)) ∙ sign-two t (formulas q) h l
 
   pub nothing-left : first (formulas q) ≡ none → first (formulas (t ∷ q)) ≡ none
   nothing-left p = ap first spelt-two ∙ two-first (joining (eqb t 3)) (formulas q) p
@@ -220,7 +213,8 @@ module _ (t : ℕ) (h : 2 < t) (l : t < 5) (q : List ℕ) where
               ∙ two-ahead (joining b) f g _
               ∙ ap (λ (p : List ℕ). ahead (joining b f g) (formulas p)) (sym d);
           within = omega (arith, length-drop (y .used) q);
-          bytes = omega arith;
+          few-tokens = omega arith;
+          few-atoms = omega arith;
           tokens = omega (arith, weigh-two 1 1 1 b f g);
           atoms = omega (arith, weigh-two 1 0 0 b f g);
           ordered = k .ordered ∙ ap₂ _&&_ (x .ordered) (w .ordered) ∙ sym (sound-two n b f g);

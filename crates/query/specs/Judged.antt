@@ -7,7 +7,7 @@ use Rattle.model.specs.Size.{fits}
 use Rattle.query.specs.declared.Verdict.{Verdict}
 use Rattle.query.specs.declared.Verdict.the-variants.{Fine, Malformed, TooLarge}
 
--- 8: not exactly one formula, a station that is not there, or lo above hi. 9: too large.
+-- 8: not exactly one formula, or one with an atom that is not sound. 9: too large.
 unfoldable pub judged : ℕ → Option Formula → Option ℕ
 judged n none = some 8
 judged n (some f) = cond (sound n f) (cond (fits f) none (some 9)) (some 8)

@@ -1,5 +1,5 @@
 -- What is said of the front of some bytes: that no formula stands there, or the size of the one that does.
-use Prim.Native.Nat.{ℕ, _+_, _*_, _≤_}
+use Prim.Native.Nat.{ℕ, _+_, _≤_}
 use mathlib.Core.Path.{_≡_}
 use mathlib.Core.Bool.{Bool, _&&_}
 use mathlib.Core.List.{List, [], _∷_}
@@ -25,7 +25,8 @@ pub record Sized (n : ℕ) (s : Bool) (q : List ℕ) (z : Size) : Type 0 where
   pub formula : model.Formula
   pub reads : formulas q ≡ ahead formula (formulas (drop (z .used) q))
   pub within : z .used ≤ length q
-  pub bytes : z .used ≡ z .tokens + 5 * z .atoms
+  pub few-tokens : z .tokens ≤ z .used
+  pub few-atoms : z .atoms ≤ z .tokens
   pub tokens : z .tokens ≡ model.tokens formula
   pub atoms : z .atoms ≡ model.atoms formula
   pub ordered : z .sound ≡ sound n formula

@@ -1,4 +1,4 @@
-// Whether a question's bytes are exactly one formula, with its stations and ranges in order and its size within the limits.
+// Whether a question's bytes are exactly one formula, with sound atoms and its size within the limits.
 ghost use mathlib.Core.Path.{_≡_};
 ghost use mathlib.Core.Bool.{Bool, _&&_, not};
 ghost use mathlib.Core.List.{List, _∷_};
@@ -25,8 +25,8 @@ enum Extent {
     Narrow(usize, usize),
 }
 
-// A formula that was read: its bytes, its tokens, how many of them are 01, whether stations and ranges are in order, and
-// its extent under the sign it is used in.
+// A formula that was read: its bytes, its tokens, how many of them are atoms, whether these are sound, and its extent under the
+// sign it is used in.
 struct Size {
     pub used: usize,
     pub tokens: usize,
@@ -143,8 +143,8 @@ fn together(y: Size, z: Size, e: Extent) -> Size
     }
 }
 
-// A token 01 before `rest`: five bytes of it are its station and its range.
-fn atom(rest: &[u8], n: usize) -> Front
+// 01 before `rest`: five bytes of it are its station, lo and hi.
+fn range(rest: &[u8], n: usize) -> Front
     ensures { λ r. ⌜ ((s : Bool) → Measured n s (1 ∷ now (rest .entry)) r) ⌝ }
 {
     if rest.len() < 5 {
@@ -160,6 +160,17 @@ fn atom(rest: &[u8], n: usize) -> Front
         sound: and(s < n, lo <= hi),
         extent: Extent::Narrow(1, 0),
     })
+}
+
+// A token that is no sign, before `rest`: an atom's, or unknown.
+fn leaf(t: u8, rest: &[u8], n: usize) -> Front
+    requires { ⌜ (1 < t → t < 7 → ⊥) ⌝ }
+    ensures { λ r. ⌜ ((s : Bool) → Measured n s (t ∷ now (rest .entry)) r) ⌝ }
+{
+    match t {
+        1 => range(rest, n),
+        0 | 2..=255 => Front::Nothing,
+    }
 }
 
 // Not: one token more.
@@ -212,7 +223,6 @@ fn measure(q: &[u8], n: usize, sign: bool) -> Front
     let t = q[0];
     let rest = after(q, 1);
     match t {
-        1 => atom(rest, n),
         2 => negated(measure(rest, n, !sign)),
         3 | 4 => {
             let l = measure(rest, n, sign);
@@ -223,7 +233,7 @@ fn measure(q: &[u8], n: usize, sign: bool) -> Front
             paired(t, sign, y, measure(after(rest, k), n, sign))
         }
         5 | 6 => modal(t, sign, measure(rest, n, t == 5)),
-        0 | 7..=255 => Front::Nothing,
+        0 | 1 | 7..=255 => leaf(t, rest, n),
     }
 }
 

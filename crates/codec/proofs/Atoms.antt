@@ -1,0 +1,92 @@
+-- Atoms and their bytes: an atom is read back from its bytes, and bytes that are read as an atom are its bytes.
+use mathlib.Core.Path.{_≡_, refl, ap₂}
+use mathlib.Core.List.{List, [], _∷_, _++_}
+use mathlib.Core.Option.{none, some}
+use Prim.Native.Nat.{ℕ, zero, suc, _+_, _*_, _/_, _%_, _<_, _≤_}
+use native.Mathlib.Omega.{arith}
+use lib.Dec.{eqb}
+use lib.ListN.{length, take}
+use borrow.Author.Tests.{eqb-true, ne-eqb}
+use Rattle.model.specs.Frames.{word}
+use Rattle.model.specs.Atom.{Atom, atomBytes, operands, atomOf}
+use Rattle.model.specs.Atom.Atom.{inRange}
+use Rattle.codec.proofs.Bytes.{Bytes}
+use Rattle.codec.proofs.Cases.{none-some, cases}
+
+-- TOKENS
+
+-- The tokens of atoms, each with its bytes.
+token-some : (t k : ℕ) → operands t ≡ some k → (t ≡ 1) × (k ≡ 5)
+unfolding operands
+token-some t k e = cases (eqb t 1) e (λ h e. (eqb-true t 1 h, cc)) (λ h e. none-some e)
+
+-- Any other token is no atom's, a sign's for one.
+pub token-none : (t : ℕ) → (t ≡ 1 → ⊥) → operands t ≡ none
+unfolding operands
+token-none t h = rw (ne-eqb t 1 h)
+
+pub sign-none : (t : ℕ) → 1 < t → t < 7 → operands t ≡ none
+sign-none t h l = token-none t (λ e. omega arith)
+
+pub operands-small : (t k : ℕ) → operands t ≡ some k → k ≤ 5
+operands-small t k e = omega (arith, token-some t k e .1)
+
+-- FROM AN ATOM TO ITS BYTES
+
+-- Its token byte, the bytes that follow, and itself read back from these, whatever is behind them.
+pub record Spelling (a : Atom) : Type 0 where
+  pub token : ℕ
+  pub bytes : List ℕ
+  pub are : atomBytes a ≡ token ∷ bytes
+  pub many : operands token ≡ some (length bytes)
+  pub back : (q : List ℕ) → atomOf token (bytes ++ q) ≡ a
+
+pub spelling : (a : Atom) → Spelling a
+unfolding atomBytes operands atomOf word
+spelling (inRange s lo hi) = record {
+  token = 1;
+  bytes = s ∷ (lo / 256) ∷ (lo % 256) ∷ (hi / 256) ∷ (hi % 256) ∷ [];
+  are = refl;
+  many = refl;
+  back = λ q. ap₂ (inRange s) (omega arith) (omega arith);
+}
+
+-- FROM BYTES TO AN ATOM
+
+-- What an atom names fits its bytes.
+abbrev pub SmallAtom : Atom → Type 0
+SmallAtom (inRange s lo hi) = (s < 256) × (lo < 65536) × (hi < 65536)
+
+range-bytes : (q : List ℕ) → 5 ≤ length q → Bytes q → (atomBytes (atomOf 1 q) ≡ 1 ∷ take 5 q) × SmallAtom (atomOf 1 q)
+unfolding atomBytes atomOf word
+range-bytes [] h g = absurd (omega arith)
+range-bytes (s ∷ []) h g = absurd (omega arith)
+range-bytes (s ∷ a ∷ []) h g = absurd (omega arith)
+range-bytes (s ∷ a ∷ b ∷ []) h g = absurd (omega arith)
+range-bytes (s ∷ a ∷ b ∷ c ∷ []) h g = absurd (omega arith)
+range-bytes (s ∷ a ∷ b ∷ c ∷ d ∷ q) h g =
+    let hs : s < 256 = g 0 in
+    let ha : a < 256 = g 1 in
+    let hb : b < 256 = g 2 in
+    let hc : c < 256 = g 3 in
+    let hd : d < 256 = g 4 in
+    let ea : (256 * a + b) / 256 ≡ a = omega arith in
+    let eb : (256 * a + b) % 256 ≡ b = omega arith in
+    let ec : (256 * c + d) / 256 ≡ c = omega arith in
+    let ed : (256 * c + d) % 256 ≡ d = omega arith in
+    (rw (ea, eb, ec, ed), (hs, omega arith, omega arith))
+
+-- Bytes that are read as an atom are its bytes.
+pub atom-bytes : (t k : ℕ) (q : List ℕ) → operands t ≡ some k → k ≤ length q → Bytes q → (atomBytes (atomOf t q) ≡ t ∷ take k q) × SmallAtom (atomOf t q)
+atom-bytes t k q e h g = let x = token-some t k e in rw (x .0, x .1) (range-bytes q (omega (arith, x .1)) g)
+
+-- The bytes of a small atom are bytes.
+pub bytes-atom : (a : Atom) → SmallAtom a → Bytes (atomBytes a)
+unfolding atomBytes
+bytes-atom (inRange s lo hi) (h, g, k) zero = omega arith
+bytes-atom (inRange s lo hi) (h, g, k) (suc zero) = h
+bytes-atom (inRange s lo hi) (h, g, k) (suc (suc zero)) = omega arith
+bytes-atom (inRange s lo hi) (h, g, k) (suc (suc (suc zero))) = omega arith
+bytes-atom (inRange s lo hi) (h, g, k) (suc (suc (suc (suc zero)))) = omega arith
+bytes-atom (inRange s lo hi) (h, g, k) (suc (suc (suc (suc (suc zero))))) = omega arith
+bytes-atom (inRange s lo hi) (h, g, k) (suc (suc (suc (suc (suc (suc i)))))) = omega arith
