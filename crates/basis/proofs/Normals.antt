@@ -4,10 +4,13 @@ use Prim.Native.Nat.{suc, _+_, _*_, _≤_}
 use native.Mathlib.Omega.{arith}
 use native.Mathlib.Nat.{mul-le-mul}
 use mathlib.Core.Bool.{Bool, true, false}
+use mathlib.Core.List.{[]}
+use Rattle.model.specs.Atom.{Atom, raiseAtom}
 use Rattle.model.specs.Formula.{Formula, tokens, signs}
-use Rattle.model.specs.Formula.Formula.{and}
+use Rattle.model.specs.Formula.Formula.{atom, and}
 use Rattle.model.specs.Computation.{Computation, eventCount}
-use Rattle.model.specs.Rules.{Normal}
+use Rattle.model.specs.Rules.{Normal, asTrue, asFalse}
+use Rattle.model.specs.Structure.{build}
 use Rattle.model.specs.Size.{width, held, narrow}
 use Rattle.model.specs.Basis.{basis}
 use Rattle.model.specs.Rounds.{rounds}
@@ -38,6 +41,16 @@ held-lifted true p = let r = held-possible p in (r .0, omega (arith, r .1), omeg
 held-lifted false p = let r = held-impossible p in (r .0, omega (arith, r .1), omega (arith, r .1, width-pos p))
 
 -- BASES AND ROUNDS
+
+pub basis-atom : (c : Bool) (K : Computation) (a : Atom) → build K (raiseAtom K c a) [] ≡ basis K (normal c (atom a))
+unfolding asTrue asFalse basis
+basis-atom true K a = refl
+basis-atom false K a = refl
+
+pub rounds-atom : (c : Bool) (K : Computation) (a : Atom) → 0 ≡ rounds K (normal c (atom a))
+unfolding asTrue asFalse rounds
+rounds-atom true K a = refl
+rounds-atom false K a = refl
 
 pub basis-joined : (c : Bool) (K : Computation) (p q : Normal) → basis K (joinedForm c p q) ≡ joinedBasis c K (basis K p) (basis K q)
 unfolding basis

@@ -1,22 +1,21 @@
 -- What the calls of the two rules ask and leave, token by token; q′ is what stands behind the token.
-use mathlib.Core.Path.{_≡_, refl, sym, ap, ap₂, subst, _∙_}
+use mathlib.Core.Path.{_≡_, refl, sym, ap, subst, _∙_}
 use Prim.Native.Nat.{ℕ, suc, _+_, _*_, _≤_, _<_}
 use native.Mathlib.Omega.{arith}
-use native.Mathlib.Nat.{div-add-mod', mul-le-mul-right, zero-mul, one-mul}
+use native.Mathlib.Nat.{mul-le-mul-right, zero-mul, one-mul}
 use mathlib.Core.List.{List, [], _++_}
-use mathlib.Core.Bool.{Bool, true, false, _&&_, Bool·beq, not as flip}
-use lib.Dec.{ltb, leb}
+use mathlib.Core.Bool.{Bool, true, false, Bool·beq, not as flip}
 use lib.ListN.{length, getD, take, drop, replicate, length-drop, length-append}
 use lib.Seq.{getD-take}
-use borrow.Author.Tests.{ltb-true}
 use Rattle.model.specs.Lists.{total}
+use Rattle.model.specs.Atom.{Atom, atomBytes, soundAtom, raiseAtom}
 use Rattle.model.specs.Formula.{Formula, prefix, sound, weigh, tokens}
-use Rattle.model.specs.Formula.Formula.{inRange, not}
+use Rattle.model.specs.Formula.Formula.{not}
 use Rattle.model.specs.Computation.{Computation, full}
-use Rattle.model.specs.Rules.{Normal, asTrue, asFalse, passes}
+use Rattle.model.specs.Rules.{Normal}
 use Rattle.model.specs.Size.{width, held, narrow}
 use Rattle.model.specs.Structure.{build}
-use Rattle.model.specs.Basis.{basis, raiseAtom}
+use Rattle.model.specs.Basis.{basis}
 use Rattle.model.specs.Rounds.{rounds}
 use Rattle.structure.specs.Layout.{standing, barCells}
 use Rattle.structure.specs.Stations.{Stations}
@@ -91,25 +90,13 @@ module _ (s : Bool) (n e : ℕ) (q counts offs starts values : List ℕ) (mw mb 
   pub total-is : total (take n counts) ≡ e
   total-is = ap total (r .laid .counts-are) ∙ r .laid .counted
 
-  pub token-known : (0 < getD q 0 0) × (getD q 0 0 < 7)
-  token-known = tokens.known-token q (r .formula) (r .rest) (r .reads)
-
   -- ATOMS
 
-  pub atom-long : getD q 0 0 ≡ 1 → 6 ≤ length q
-  unfolding prefix
-  atom-long k =
+  pub ready-atom : (1 < getD q 0 0 → getD q 0 0 < 7 → ⊥) → (a : Atom) × (q ≡ atomBytes a ++ r .rest) × (soundAtom n a ≡ true)
+  unfolding sound
+  ready-atom k =
       let h = tokens.at-atom q (r .formula) (r .rest) (r .reads) k in
-      let l : length q ≡ length (prefix (inRange (h .0) (h .1) (h .2)) ++ r .rest) = ap length (r .reads) ∙ ap (λ (u : Formula). length (prefix u ++ r .rest)) (h .3) in
-      omega arith
-
-  pub atom-station : getD q 0 0 ≡ 1 → getD q 1 0 < n
-  unfolding prefix sound
-  atom-station k =
-      let h = tokens.at-atom q (r .formula) (r .rest) (r .reads) k in
-      let x : getD q 1 0 ≡ h .0 = ap (λ (l : List ℕ). getD l 1 0) (r .reads) ∙ ap (λ (u : Formula). getD (prefix u ++ r .rest) 1 0) (h .3) in
-      let g : ltb (h .0) n && leb (h .1) (h .2) ≡ true = sym (ap (sound n) (h .3)) ∙ r .known in
-      omega (arith, ltb-true (h .0) n (and-true (ltb (h .0) n) (leb (h .1) (h .2)) .0 g .0))
+      (h .0, h .2, sym (ap (sound n) (h .1)) ∙ r .known)
 
   -- There is room for one structure, and for its bars.
   one-fits : (c m : ℕ) → held (normal s (r .formula)) * c ≤ m → c ≤ m
@@ -215,32 +202,17 @@ module _ (s : Bool) (n e : ℕ) (q counts offs starts values : List ℕ) (c u v 
   done mw mb r = done-at (r .computation) (r .laid) (r .formula) (r .rest) (r .reads) (r .slim) (r .short)
 
 module _ (s : Bool) (n e : ℕ) (q counts offs starts values : List ℕ) where
-  pub made-atom : (c : ℕ) (w b : List ℕ) (lo hi : ℕ) → getD q 0 0 ≡ 1 → lo ≡ 256 * getD q 2 0 + getD q 3 0 → hi ≡ 256 * getD q 4 0 + getD q 5 0
-      → c ≤ 1 → (0 < c → getD w 0 0 ≡ 255 → ⊥)
-      → ((K : Computation) → Laid K n e counts offs starts values → standing n (full K) c w b ≡ build K (raiseAtom K (getD q 1 0) (passes s lo hi)) [])
-      → Made s n e q counts offs starts values c 6 0 w b
-  unfolding prefix asTrue asFalse basis rounds
-  made-atom c w b lo hi k el eh h first stands = record {
-    passed = λ f rest r. let g = tokens.at-atom q f rest r k in rw (g .3);
-    stands = λ K f rest laid r.
-        let g = tokens.at-atom q f rest r k in
-        let at : (i : ℕ) → getD q i 0 ≡ getD (prefix (inRange (g .0) (g .1) (g .2)) ++ rest) i 0 = λ i. ap (λ (l : List ℕ). getD l i 0) r ∙ ap (λ (u : Formula). getD (prefix u ++ rest) i 0) (g .3) in
-        let x : getD q 1 0 ≡ g .0 = at 1 in
-        let y : lo ≡ g .1 = omega (arith, el, at 2, at 3, div-add-mod' (g .1) 256) in
-        let z : hi ≡ g .2 = omega (arith, eh, at 4, at 5, div-add-mod' (g .2) 256) in
-        rw (g .3) (stands K laid ∙ ap (λ (i : ℕ). build K (raiseAtom K i (passes s lo hi)) []) x
-        ∙ ap₂ (λ (i j : ℕ). build K (raiseAtom K (g .0) (passes s i j)) []) y z ∙ atom-basis s K (g .0) (g .1) (g .2));
-    counted = λ K f rest laid r. let g = tokens.at-atom q f rest r k in rw (g .3) (atom-rounds s K (g .0) (g .1) (g .2));
+  pub made-atom : (c u : ℕ) (w b : List ℕ) → (1 < getD q 0 0 → getD q 0 0 < 7 → ⊥) → c ≤ 1 → (0 < c → getD w 0 0 ≡ 255 → ⊥)
+      → ((a : Atom) (rest : List ℕ) → q ≡ atomBytes a ++ rest → u ≡ length (atomBytes a))
+      → ((K : Computation) (a : Atom) (rest : List ℕ) → Laid K n e counts offs starts values → q ≡ atomBytes a ++ rest → standing n (full K) c w b ≡ build K (raiseAtom K s a) [])
+      → Made s n e q counts offs starts values c u 0 w b
+  unfolding prefix
+  made-atom c u w b k h first long stands = record {
+    passed = λ f rest r. let g = tokens.at-atom q f rest r k in rw (g .1) (long (g .0) rest (g .2));
+    stands = λ K f rest laid r. let g = tokens.at-atom q f rest r k in rw (g .1) (stands K (g .0) rest laid (g .2) ∙ normals.basis-atom s K (g .0));
+    counted = λ K f rest laid r. let g = tokens.at-atom q f rest r k in rw (g .1) (normals.rounds-atom s K (g .0));
     least = λ i g f. first (omega arith) (ap (λ (x : ℕ). getD w x 0) (sym (ap (λ (x : ℕ). x * ((e + 1) * n)) (let o : i ≡ 0 = omega arith in o) ∙ zero-mul ((e + 1) * n))) ∙ f);
   }
-    where
-      atom-basis : (t : Bool) (K : Computation) (a l h : ℕ) → build K (raiseAtom K a (passes t l h)) [] ≡ basis K (normal t (inRange a l h))
-      atom-basis true K a l h = refl
-      atom-basis false K a l h = refl
-
-      atom-rounds : (t : Bool) (K : Computation) (a l h : ℕ) → 0 ≡ rounds K (normal t (inRange a l h))
-      atom-rounds true K a l h = refl
-      atom-rounds false K a l h = refl
 
   module _ (q′ : List ℕ) (d : q′ ≡ drop 1 q) where
     pub made-not : (c u v c₂ u₂ v₂ : ℕ) (w b : List ℕ) → getD q 0 0 ≡ 2 → c₂ ≡ c → u₂ ≡ u + 1 → v₂ ≡ v

@@ -1,5 +1,6 @@
 -- The formula at the front of a question, by its token byte: what it is, and what stands behind the token.
 use mathlib.Core.Path.{_≡_, refl, sym, ap, subst, _∙_}
+use mathlib.Core.Logic.{_↔_}
 use Prim.Native.Nat.{ℕ, zero, suc, _+_, _*_, _≤_, _<_}
 use native.Mathlib.Omega.{arith}
 use mathlib.Core.List.{List, _∷_, _++_, append-assoc}
@@ -7,14 +8,16 @@ use mathlib.Core.Bool.{Bool, true, false, Bool·beq}
 use lib.ListN.{length, getD, drop, length-append}
 use lib.Seq.{drop-at, drop-drop}
 use lib.Dec.{eqb}
+use Rattle.model.specs.Atom.{Atom, atomBytes}
 use Rattle.model.specs.Formula.{Formula, prefix, weigh, tokens, signs}
-use Rattle.model.specs.Formula.Formula.{inRange, not, and, or, possibly, always}
+use Rattle.model.specs.Formula.Formula.{atom, not, and, or, possibly, always}
 use Rattle.lattice.specs.Signed.{two, modal}
 use Rattle.basis.specs.Signed.{twoToken, modalToken}
+use Rattle.basis.proofs.Atoms as atoms
 
 -- The token byte.
 unfoldable pub token : Formula → ℕ
-token (inRange s lo hi) = 1
+token (atom a) = getD (atomBytes a) 0 0
 token (not f) = 2
 token (and f g) = 3
 token (or f g) = 4
@@ -23,7 +26,7 @@ token (always f) = 6
 
 head-is : (f : Formula) (rest : List ℕ) → getD (prefix f ++ rest) 0 0 ≡ token f
 unfolding prefix token
-head-is (inRange s lo hi) rest = refl
+head-is (atom a) rest = atoms.head-is a rest
 head-is (not f) rest = refl
 head-is (and f g) rest = refl
 head-is (or f g) rest = refl
@@ -33,34 +36,33 @@ head-is (always f) rest = refl
 pub token-at : {q : List ℕ} (f : Formula) (rest : List ℕ) → q ≡ prefix f ++ rest → getD q 0 0 ≡ token f
 token-at f rest e = ap (λ (l : List ℕ). getD l 0 0) e ∙ head-is f rest
 
-token-range : (f : Formula) → (0 < token f) × (token f < 7)
-unfolding token
-token-range (inRange s lo hi) = (omega arith, omega arith)
-token-range (not f) = (omega arith, omega arith)
-token-range (and f g) = (omega arith, omega arith)
-token-range (or f g) = (omega arith, omega arith)
-token-range (possibly f) = (omega arith, omega arith)
-token-range (always f) = (omega arith, omega arith)
-
-pub known-token : (q : List ℕ) (f : Formula) (rest : List ℕ) → q ≡ prefix f ++ rest → (0 < getD q 0 0) × (getD q 0 0 < 7)
-known-token q f rest e = rw (token-at f rest e) (token-range f)
-
 -- INVERSION
 
 -- What a formula is, by its token.
 abbrev Is : Formula → ℕ → Type 0
-Is f zero = Unit {0}
-Is f (suc zero) = (s : ℕ) × (lo : ℕ) × (hi : ℕ) × (f ≡ inRange s lo hi)
+Is f zero = (a : Atom) × (f ≡ atom a)
+Is f (suc zero) = (a : Atom) × (f ≡ atom a)
 Is f (suc (suc zero)) = (g : Formula) × (f ≡ not g)
 Is f (suc (suc (suc zero))) = (g : Formula) × (h : Formula) × (f ≡ and g h)
 Is f (suc (suc (suc (suc zero)))) = (g : Formula) × (h : Formula) × (f ≡ or g h)
 Is f (suc (suc (suc (suc (suc zero))))) = (g : Formula) × (f ≡ possibly g)
 Is f (suc (suc (suc (suc (suc (suc zero)))))) = (g : Formula) × (f ≡ always g)
-Is f (suc (suc (suc (suc (suc (suc (suc t))))))) = Unit {0}
+Is f (suc (suc (suc (suc (suc (suc (suc t))))))) = (a : Atom) × (f ≡ atom a)
+
+-- With a token that is no sign's it is an atom.
+is-atom : (f : Formula) (t : ℕ) → (1 < t → t < 7 → ⊥) → Is f t ↔ ((a : Atom) × (f ≡ atom a))
+is-atom f zero n = (λ h. h, λ h. h)
+is-atom f (suc zero) n = (λ h. h, λ h. h)
+is-atom f (suc (suc zero)) n = absurd (n (omega arith) (omega arith))
+is-atom f (suc (suc (suc zero))) n = absurd (n (omega arith) (omega arith))
+is-atom f (suc (suc (suc (suc zero)))) n = absurd (n (omega arith) (omega arith))
+is-atom f (suc (suc (suc (suc (suc zero))))) n = absurd (n (omega arith) (omega arith))
+is-atom f (suc (suc (suc (suc (suc (suc zero)))))) n = absurd (n (omega arith) (omega arith))
+is-atom f (suc (suc (suc (suc (suc (suc (suc t))))))) n = (λ h. h, λ h. h)
 
 is-token : (f : Formula) → Is f (token f)
 unfolding token
-is-token (inRange s lo hi) = (s, lo, hi, refl)
+is-token (atom a) = is-atom (atom a) (getD (atomBytes a) 0 0) (atoms.no-sign a) .1 (a, refl)
 is-token (not f) = (f, refl)
 is-token (and f g) = (f, g, refl)
 is-token (or f g) = (f, g, refl)
@@ -91,8 +93,11 @@ prefix-modal true f = refl
 prefix-modal false f = refl
 
 module _ (q : List ℕ) (f : Formula) (rest : List ℕ) (e : q ≡ prefix f ++ rest) where
-  pub at-atom : getD q 0 0 ≡ 1 → (s : ℕ) × (lo : ℕ) × (hi : ℕ) × (f ≡ inRange s lo hi)
-  at-atom k = token-is f 1 (sym (token-at f rest e) ∙ k)
+  pub at-atom : (1 < getD q 0 0 → getD q 0 0 < 7 → ⊥) → (a : Atom) × (f ≡ atom a) × (q ≡ atomBytes a ++ rest)
+  unfolding prefix
+  at-atom k =
+      let h = is-atom f (getD q 0 0) k .0 (token-is f (getD q 0 0) (sym (token-at f rest e))) in
+      (h .0, h .1, e ∙ ap (λ (u : Formula). prefix u ++ rest) (h .1))
 
   pub behind-not : getD q 0 0 ≡ 2 → (g : Formula) × (f ≡ not g) × (drop 1 q ≡ prefix g ++ rest)
   unfolding prefix
@@ -125,7 +130,7 @@ second q u a b e h =
 
 pub prefix-some : (f : Formula) → 0 < length (prefix f)
 unfolding prefix
-prefix-some (inRange s lo hi) = omega arith
+prefix-some (atom a) = atoms.some-bytes a .0
 prefix-some (not f) = omega arith
 prefix-some (and f g) = omega arith
 prefix-some (or f g) = omega arith
@@ -134,7 +139,7 @@ prefix-some (always f) = omega arith
 
 pub prefix-short : (f : Formula) → length (prefix f) ≤ 6 * tokens f
 unfolding prefix weigh
-prefix-short (inRange s lo hi) = omega arith
+prefix-short (atom a) = omega (arith, atoms.some-bytes a)
 prefix-short (not f) = omega (arith, prefix-short f)
 prefix-short (and f g) = omega (arith, length-append (prefix f) (prefix g), prefix-short f, prefix-short g)
 prefix-short (or f g) = omega (arith, length-append (prefix f) (prefix g), prefix-short f, prefix-short g)
@@ -143,7 +148,7 @@ prefix-short (always f) = omega (arith, prefix-short f)
 
 pub signs-tokens : (f : Formula) → signs f ≤ tokens f
 unfolding weigh
-signs-tokens (inRange s lo hi) = omega arith
+signs-tokens (atom a) = omega arith
 signs-tokens (not f) = omega (arith, signs-tokens f)
 signs-tokens (and f g) = omega (arith, signs-tokens f, signs-tokens g)
 signs-tokens (or f g) = omega (arith, signs-tokens f, signs-tokens g)
@@ -152,16 +157,13 @@ signs-tokens (always f) = omega (arith, signs-tokens f)
 
 -- THE MATCH
 
-pub two-arm : (x : ℕ) → (x ≡ 0 → ⊥) → (x ≡ 1 → ⊥) → (x ≡ 2 → ⊥) → x < 5 → (b : Bool) × (x ≡ twoToken b)
-two-arm zero e f g h = absurd (e refl)
-two-arm (suc zero) e f g h = absurd (f refl)
-two-arm (suc (suc zero)) e f g h = absurd (g refl)
-two-arm (suc (suc (suc zero))) e f g h = (true, refl)
-two-arm (suc (suc (suc (suc zero)))) e f g h = (false, refl)
-two-arm (suc (suc (suc (suc (suc n))))) e f g h = absurd (omega arith)
-
-pub unknown-arm : (x : ℕ) → (0 < x) × (x < 7) → (x ≡ 5 → ⊥) → (x ≡ 6 → ⊥) → 5 ≤ x → ⊥
-unknown-arm x h f g l = omega arith
+pub two-arm : (x : ℕ) → (x ≡ 2 → ⊥) → 2 ≤ x → x < 5 → (b : Bool) × (x ≡ twoToken b)
+two-arm zero g l h = absurd (omega arith)
+two-arm (suc zero) g l h = absurd (omega arith)
+two-arm (suc (suc zero)) g l h = absurd (g refl)
+two-arm (suc (suc (suc zero))) g l h = (true, refl)
+two-arm (suc (suc (suc (suc zero)))) g l h = (false, refl)
+two-arm (suc (suc (suc (suc (suc n))))) g l h = absurd (omega arith)
 
 -- The flags that the code hands on.
 pub is-and : (x : ℕ) (b : Bool) → x ≡ twoToken b → eqb x 3 ≡ Bool·beq b true

@@ -34,7 +34,7 @@ pub fn word(q: &[u8], at: usize) -> u16
 }
 
 // 01 at the front of q, under the sign given.
-pub fn leaf(
+pub fn range(
     q: &[u8],
     ws: &mut [u8],
     bs: &mut [u8],
@@ -53,11 +53,39 @@ pub fn leaf(
     let s = q[1] as usize;
     let lo = word(q, 2);
     let hi = word(q, 4);
-    let c = steps::atom(ws, bs, n, e, counts, offs, starts, values, sign, s, lo, hi);
+    let c = steps::range(ws, bs, n, e, counts, offs, starts, values, sign, s, lo, hi);
     Basis {
         count: c,
         used: 6,
         rounds: 0,
+    }
+}
+
+// The atom at the front of q, under the sign given.
+pub fn leaf(
+    q: &[u8],
+    ws: &mut [u8],
+    bs: &mut [u8],
+    n: usize,
+    e: usize,
+    counts: &[u8; 8],
+    offs: &[u8; 8],
+    starts: &[u8],
+    values: &[u16],
+    sign: bool,
+) -> Basis
+    requires { ⌜ Ready sign n e (now q) (now counts) (now offs) (now starts) (now values) (length (now ws)) (length (now bs)) ⌝ }
+    requires { ⌜ (1 < getD (now q) 0 0 → getD (now q) 0 0 < 7 → ⊥) ⌝ }
+    ensures { λ r. ⌜ Made sign n e (now (q .entry)) (now (counts .entry)) (now (offs .entry)) (now (starts .entry)) (now (values .entry)) (r .count) (r .used) (r .rounds) (now (ws .exit)) (now (bs .exit)) ⌝ }
+{
+    let t = q[0];
+    match t {
+        1 => range(q, ws, bs, n, e, counts, offs, starts, values, sign),
+        0 | 2..=255 => Basis {
+            count: 0,
+            used: 0,
+            rounds: 0,
+        },
     }
 }
 
@@ -163,7 +191,6 @@ pub fn basis_true(
 {
     let t = q[0];
     match t {
-        1 => leaf(q, ws, bs, n, e, counts, offs, starts, values, true),
         2 => passed(basis_false(after(q, 1), ws, bs, n, e, counts, offs, starts, values)),
         3 | 4 => {
             let l = basis_true(after(q, 1), ws, bs, n, e, counts, offs, starts, values);
@@ -191,11 +218,7 @@ pub fn basis_true(
             let p = basis_false(after(q, 1), ws, bs, n, e, counts, offs, starts, values);
             lift(ws, bs, false, p, n, e, starts)
         }
-        0 | 7..=255 => Basis {
-            count: 0,
-            used: 0,
-            rounds: 0,
-        },
+        0 | 1 | 7..=255 => leaf(q, ws, bs, n, e, counts, offs, starts, values, true),
     }
 }
 
@@ -216,7 +239,6 @@ pub fn basis_false(
 {
     let t = q[0];
     match t {
-        1 => leaf(q, ws, bs, n, e, counts, offs, starts, values, false),
         2 => passed(basis_true(after(q, 1), ws, bs, n, e, counts, offs, starts, values)),
         3 | 4 => {
             let l = basis_false(after(q, 1), ws, bs, n, e, counts, offs, starts, values);
@@ -244,10 +266,6 @@ pub fn basis_false(
             let p = basis_false(after(q, 1), ws, bs, n, e, counts, offs, starts, values);
             lift(ws, bs, true, p, n, e, starts)
         }
-        0 | 7..=255 => Basis {
-            count: 0,
-            used: 0,
-            rounds: 0,
-        },
+        0 | 1 | 7..=255 => leaf(q, ws, bs, n, e, counts, offs, starts, values, false),
     }
 }

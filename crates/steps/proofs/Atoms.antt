@@ -1,4 +1,5 @@
--- The rows that the table leads to are those of an atom's raising function.
+-- The rows that a table leads to are those of an atom's raising function, for an atom that looks for an event of its station by a test;
+-- and with rows that are those of a raising function the structure stands that is built of it.
 use mathlib.Core.Path.{_≡_, refl, sym, ap, ap₂, _∙_}
 use mathlib.Core.Logic.{_⊎_, inl, inr, ⊎-elim}
 use Prim.Native.Nat.{ℕ, zero, suc, _+_, _-_, _*_, _≤_, _<_, max}
@@ -11,13 +12,12 @@ use lib.ListN.{length, getD, drop, getD-replicate, List·getD-map}
 use lib.Seq.{getD-take, getD-drop}
 use borrow.Author.Tests.{eq-eqb, ne-eqb, leb-true, leb-false}
 use Rattle.model.specs.Cut.{Cut, _!_, empty, join}
-use Rattle.model.specs.Computation.{Computation, full, count, value, clock}
-use Rattle.model.specs.Rules.{passes}
+use Rattle.model.specs.Computation.{Computation, full, count, clock}
+use Rattle.model.specs.Atom.{next, upTo, raiseTo}
 use Rattle.model.specs.Structure.{build}
-use Rattle.model.specs.Basis.{next, upTo, raiseAtom}
 use Rattle.structure.specs.Layout.{decoded, standing}
 use Rattle.structure.specs.Laid.{Laid}
-use Rattle.steps.specs.Rows.{rowAt, absent, coded, entry, eventRow, joinedRow, atomRow, Tabled}
+use Rattle.steps.specs.Rows.{rowAt, absent, coded, entry, eventRow, joinedRow, atomRow, Tabled, Leads}
 use Rattle.lattice.proofs.Cuts.{join-at}
 use Rattle.lattice.proofs.Sums.{total-take}
 use Rattle.structure.proofs.Places.{cells-are}
@@ -74,9 +74,6 @@ module _ (K : Computation) (n e : ℕ) (counts offs starts values : List ℕ) (l
   own-fit =
       omega (arith, total-take (full K) s, laid .offs-are s h, laid .counted, sym (getD-take n counts s 0 h) ∙ ap (λ (l : List ℕ). getD l s 0) (laid .counts-are))
 
-  pub values-fit : getD offs s 0 + s + getD counts s 0 < length values
-  values-fit = omega (arith, own-fit, laid .values-fit)
-
   pub starts-fit : (e + 1) * n ≤ length starts
   starts-fit = rw (← cells-are n e (full K) (laid .counted)) (laid .starts-fit)
 
@@ -86,11 +83,9 @@ module _ (K : Computation) (n e : ℕ) (counts offs starts values : List ℕ) (l
   event-row-is (suc j) a =
       ap (λ (x : ℕ). rowAt n x starts) (event-later (getD offs s 0) (suc j) (omega arith)) ∙ ap (λ (x : ℕ). rowAt n (x + suc j) starts) (laid .offs-are s h) ∙ clock-row K n e counts offs starts values laid s (suc j) a (omega arith)
 
-  module _ (b : Bool) (lo hi : ℕ) (table : List ℕ)
-      (tab : (k : ℕ) → k < 256 → getD table k 0 ≡ entry (λ j. passes b lo hi (getD values (getD offs s 0 + s + j) 0)) (getD counts s 0) k) where
-    abbrev q : ℕ → Bool
-    q j = passes b lo hi (getD values (getD offs s 0 + s + j) 0)
-
+  -- A test p of the station's events, and q the same of what stands in the tables.
+  module _ (p q : ℕ → Bool) (same : (j : ℕ) → j ≤ getD counts s 0 → p j ≡ q j) (table : List ℕ)
+      (tab : (k : ℕ) → k < 256 → getD table k 0 ≡ entry q (getD counts s 0) k) where
     pub tabled : Tabled n e s (getD offs s 0) table (length starts)
     tabled = record {
       station = h;
@@ -101,24 +96,18 @@ module _ (K : Computation) (n e : ℕ) (counts offs starts values : List ℕ) (l
       reach = λ k a f. ⊎-elim (λ r. absurd (f (tab k a ∙ r .0))) (λ r. omega (arith, tab k a, r .1, r .2, own-fit)) (entry-place q (getD counts s 0) k);
     }
 
-    value-same : (j : ℕ) → j ≤ getD counts s 0 → passes b lo hi (value K s j) ≡ q j
-    value-same j a =
-        let c : j ≤ count K s = omega (arith, count-is) in
-        ap (passes b lo hi) (sym (laid .values-are s j h c) ∙ ap (λ (x : ℕ). getD values (x + s + j) 0) (sym (laid .offs-are s h)))
-
-    raise-is : (i : ℕ) → raiseAtom K s (passes b lo hi) (rowAt n i starts)
+    raise-is : (i : ℕ) → raiseTo K s p (rowAt n i starts)
         ≡ upTo K s (rowAt n i starts) (next q (suc (getD counts s 0) - getD starts (i * n + s) 0) (getD starts (i * n + s) 0))
-    unfolding raiseAtom
+    unfolding raiseTo
     raise-is i =
         let x : rowAt n i starts ! s ≡ getD starts (i * n + s) 0 = getD-take n (drop (i * n) starts) s 0 h ∙ getD-drop (i * n) starts s 0 in
-        ap₂ (λ (y z : ℕ). upTo K s (rowAt n i starts) (next (λ k. passes b lo hi (value K s k)) (suc z - y) y)) x (sym count-is)
+        ap₂ (λ (y z : ℕ). upTo K s (rowAt n i starts) (next p (suc z - y) y)) x (sym count-is)
         ∙ ap (upTo K s (rowAt n i starts))
-        (next-same (λ k. passes b lo hi (value K s k)) q (suc (getD counts s 0) - getD starts (i * n + s) 0) (getD starts (i * n + s) 0) (λ j u v. value-same j (omega arith)))
+        (next-same p q (suc (getD counts s 0) - getD starts (i * n + s) 0) (getD starts (i * n + s) 0) (λ j u v. same j (omega arith)))
 
-    pub row-is : (i : ℕ) → i ≤ e → getD starts (i * n + s) 0 < 256
-        → decoded (atomRow n s (getD offs s 0) table starts i) ≡ raiseAtom K s (passes b lo hi) (rowAt n i starts)
+    pub leads : ((i : ℕ) → getD starts (i * n + s) 0 < 256) → Leads n e s (getD offs s 0) table starts (raiseTo K s p)
     unfolding atomRow joinedRow upTo
-    row-is i a u = go (entry-place q (getD counts s 0) x)
+    leads byte i a = go (entry-place q (getD counts s 0) x)
       where
         x : ℕ
         x = getD starts (i * n + s) 0
@@ -126,8 +115,11 @@ module _ (K : Computation) (n e : ℕ) (counts offs starts values : List ℕ) (l
         c : Cut
         c = rowAt n i starts
 
+        u : x < 256
+        u = byte i
+
         go : ((entry q (getD counts s 0) x ≡ 255) × (next q (suc (getD counts s 0) - x) x ≡ none)) ⊎ ((j : ℕ) × (j ≤ getD counts s 0) × (entry q (getD counts s 0) x ≡ j) × (next q (suc (getD counts s 0) - x) x ≡ some j))
-            → decoded (joinedRow n (getD offs s 0) starts i (getD table x 0)) ≡ raiseAtom K s (passes b lo hi) c
+            → decoded (joinedRow n (getD offs s 0) starts i (getD table x 0)) ≡ raiseTo K s p c
         go (inl (f, g)) =
             rw (raise-is i, g, eq-eqb (getD table x 0) 255 (tab x u ∙ f)) (decoded-none (absent n) (getD-replicate n 0 255 0 (laid .some-station)))
         go (inr (j, f, g, r)) =
@@ -139,14 +131,16 @@ module _ (K : Computation) (n e : ℕ) (counts offs starts values : List ℕ) (l
             λ m. not-both _ _ (start-there K n e counts offs starts values laid i a) (λ w. start-there K n e counts offs starts values laid (eventRow (getD offs s 0) j) y (ap (λ (l : List ℕ). getD l 0 0) d ∙ w)) (sym (join-at c (clock K s j) 0) ∙ m) in
             rw (raise-is i, r, t, ne-eqb j 255 z, d) (decoded-some (join c (clock K s j)) v)
 
-    module _ (byte : (i : ℕ) → getD starts (i * n + s) 0 < 256) (w bs : List ℕ)
-        (rows : (i : ℕ) → i ≤ e → rowAt n i w ≡ atomRow n s (getD offs s 0) table starts i) where
-      pub atom-dropped : getD w 0 0 ≡ 255 → standing n (full K) 0 w bs ≡ build K (raiseAtom K s (passes b lo hi)) []
-      unfolding standing
-      atom-dropped z = sym (build-empty K n e counts offs starts values laid (raiseAtom K s (passes b lo hi)) w (λ i a. ap decoded (rows i a) ∙ row-is i a (byte i)) [] z)
+-- THE STRUCTURE
 
-      pub atom-kept : (getD w 0 0 ≡ 255 → ⊥) → getD bs 0 0 ≡ 255 → standing n (full K) 1 w bs ≡ build K (raiseAtom K s (passes b lo hi)) []
-      unfolding standing
-      atom-kept z y =
-          rw (no-bars n bs y)
-          (sym (build-there K n e counts offs starts values laid (raiseAtom K s (passes b lo hi)) w (λ i a. ap decoded (rows i a) ∙ row-is i a (byte i)) [] z ∙ keep-free _ _))
+module _ (K : Computation) (n e : ℕ) (counts offs starts values : List ℕ) (laid : Laid K n e counts offs starts values) (s off : ℕ) (table : List ℕ)
+    (f : Cut → Option Cut) (lead : Leads n e s off table starts f) (w bs : List ℕ) (rows : (i : ℕ) → i ≤ e → rowAt n i w ≡ atomRow n s off table starts i) where
+  pub atom-dropped : getD w 0 0 ≡ 255 → standing n (full K) 0 w bs ≡ build K f []
+  unfolding standing
+  atom-dropped z = sym (build-empty K n e counts offs starts values laid f w (λ i a. ap decoded (rows i a) ∙ lead i a) [] z)
+
+  pub atom-kept : (getD w 0 0 ≡ 255 → ⊥) → getD bs 0 0 ≡ 255 → standing n (full K) 1 w bs ≡ build K f []
+  unfolding standing
+  atom-kept z y =
+      rw (no-bars n bs y)
+      (sym (build-there K n e counts offs starts values laid f w (λ i a. ap decoded (rows i a) ∙ lead i a) [] z ∙ keep-free _ _))

@@ -4,15 +4,13 @@ use Prim.Native.Nat.{ℕ, suc, _+_, _-_, _*_, _≤_, _<_, max}
 use native.Mathlib.Omega.{arith}
 use native.Mathlib.Numerals.{add-one}
 use mathlib.Core.List.{List}
-use mathlib.Core.Bool.{Bool, true, false, cond, not}
+use mathlib.Core.Bool.{Bool, true, false, cond}
 use lib.Dec.{eqb}
 use lib.ListN.{length, getD, take, drop, set, replicate, length-drop, length-replicate, getD-replicate}
 use lib.Seq.{length-take-le, getD-take, getD-drop, getD-set-same, getD-set-other}
-use borrow.Author.Tests.{eq-eqb, ne-eqb, eqb-true, eqb-false, lt-leb, le-leb}
-use Rattle.model.specs.Lists.{between}
+use borrow.Author.Tests.{eq-eqb, ne-eqb, eqb-true, eqb-false}
 use Rattle.model.specs.Cut.{join}
-use Rattle.model.specs.Rules.{passes}
-use Rattle.model.specs.Basis.{next}
+use Rattle.model.specs.Atom.{next}
 use Rattle.lattice.proofs.Cuts.{length-join, join-at}
 use Rattle.structure.proofs.Places.{row-fits}
 use Rattle.steps.specs.Rows.{rowAt, absent, coded, entry, eventRow, joinedRow, atomRow, Tabled}
@@ -30,21 +28,6 @@ parts-length s a b n h k =
     omega (arith, length-join (take n (drop a s)) (take n (drop b s)), length-take-le n (drop a s) (omega (arith, length-drop a s)), length-take-le n (drop b s) (omega (arith, length-drop b s)))
 
 -- TABLES
-
-pub passes-low : (b : Bool) (lo hi v : ℕ) → v < lo → not b ≡ passes b lo hi v
-unfolding passes between
-passes-low true lo hi v h = rw (lt-leb lo v h)
-passes-low false lo hi v h = rw (lt-leb lo v h)
-
-pub passes-high : (b : Bool) (lo hi v : ℕ) → lo ≤ v → hi < v → not b ≡ passes b lo hi v
-unfolding passes between
-passes-high true lo hi v h k = rw (le-leb lo v h, lt-leb v hi k)
-passes-high false lo hi v h k = rw (le-leb lo v h, lt-leb v hi k)
-
-pub passes-in : (b : Bool) (lo hi v : ℕ) → lo ≤ v → v ≤ hi → b ≡ passes b lo hi v
-unfolding passes between
-passes-in true lo hi v h k = rw (le-leb lo v h, le-leb v hi k)
-passes-in false lo hi v h k = rw (le-leb lo v h, le-leb v hi k)
 
 -- Past the last event nothing passes.
 pub entry-past : (p : ℕ → Bool) (m k : ℕ) → m < k → entry p m k ≡ 255

@@ -2,3 +2,4 @@ pub mod Laws
 pub mod Parts
 pub mod Built
 pub mod Atoms
+pub mod Ranges

@@ -6,8 +6,9 @@ use mathlib.Core.List.{List}
 use mathlib.Core.Option.{Option, none, some}
 use lib.Dec.{eqb}
 use lib.ListN.{getD, take, drop, replicate}
-use Rattle.model.specs.Cut.{inside, join}
-use Rattle.model.specs.Basis.{next}
+use Rattle.model.specs.Cut.{Cut, inside, join}
+use Rattle.model.specs.Atom.{next}
+use Rattle.structure.specs.Layout.{decoded}
 
 -- Row i: the n cells from i * n on.
 abbrev pub rowAt : ℕ → ℕ → List ℕ → List ℕ
@@ -50,6 +51,10 @@ pub record Tabled (n e s off : ℕ) (table : List ℕ) (m : ℕ) : Type 0 where
   pub before : off ≤ e
   pub starts-fit : (e + 1) * n ≤ m
   pub reach : (k : ℕ) → k < 256 → (getD table k 0 ≡ 255 → ⊥) → off + getD table k 0 ≤ e
+
+-- The table leads each start to where f raises it.
+abbrev pub Leads : (n e s off : ℕ) (table starts : List ℕ) → (Cut → Option Cut) → Type 0
+Leads n e s off table starts f = (i : ℕ) → i ≤ e → decoded (atomRow n s off table starts i) ≡ f (rowAt n i starts)
 
 -- count bars at a place, and the first slot behind them not used; the rest is as before.
 pub record Ended (at count n : ℕ) (b b₂ : List ℕ) : Type 0 where

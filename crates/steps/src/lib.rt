@@ -1,17 +1,18 @@
-// The step for 01, either sign, and the writing of cells and bars that the other steps share.
+// The step for an atom, either sign, and the writing of cells and bars that the other steps share.
 ghost use mathlib.Core.Path.{_≡_};
-ghost use mathlib.Core.List.{[]};
+ghost use mathlib.Core.List.{List, []};
+ghost use mathlib.Core.Option.{Option};
 ghost use Prim.Native.Nat.{ℕ, _+_, _*_, _≤_, _<_};
 ghost use lib.ListN.{length, getD, take, drop, replicate};
 ghost use lib.Seq.{paste};
-ghost use Rattle.model.specs.Cut.{join};
-ghost use Rattle.model.specs.Rules.{passes};
+ghost use Rattle.model.specs.Cut.{Cut, join};
 ghost use Rattle.model.specs.Computation.{Computation, full};
 ghost use Rattle.model.specs.Structure.{build};
-ghost use Rattle.model.specs.Basis.{raiseAtom};
+ghost use Rattle.model.specs.Atom.{passes, raiseAtom};
+ghost use Rattle.model.specs.Atom.Atom.{inRange};
 ghost use Rattle.structure.specs.Layout.{standing};
 ghost use Rattle.structure.specs.Laid.{Laid};
-ghost use Rattle.steps.specs.Rows.{rowAt, entry, eventRow, atomRow, Tabled, Ended};
+ghost use Rattle.steps.specs.Rows.{rowAt, entry, eventRow, atomRow, Tabled, Leads, Ended};
 
 // x in the len cells from at on.
 pub fn fill(ws: &mut [u8], at: usize, len: usize, x: u8)
@@ -47,7 +48,7 @@ pub fn end_bars(bs: &mut [u8], at: usize, count: usize, n: usize)
     }
 }
 
-// Does a value pass 01, as true or as false?
+// Does a value pass a range, as true or as false?
 pub fn passing(sign: bool, lo: u16, hi: u16, v: u16) -> bool
     ensures { λ r. ⌜ r ≡ passes sign lo hi v ⌝ }
 {
@@ -137,8 +138,31 @@ pub fn atom_rows(
     }
 }
 
-// 01, either sign: one set, no bars, dropped if it is empty.
+// An atom, either sign, from its table: one set, no bars, dropped if it is empty. The table goes by the counts of station s, and
+// names events of the station that off events stand before.
 pub fn atom(
+    ws: &mut [u8],
+    bs: &mut [u8],
+    n: usize,
+    e: usize,
+    s: usize,
+    off: usize,
+    table: &[u8; 256],
+    starts: &[u8],
+) -> usize
+    requires { ⌜ Tabled n e s off (now table) (length (now starts)) ⌝ }
+    requires { ⌜ ((e + 1) * n ≤ length (now ws)) × (16 * n ≤ length (now bs)) ⌝ }
+    ensures { λ r. ⌜ (r ≤ 1) × (0 < r → getD (now (ws .exit)) 0 0 ≡ 255 → ⊥)
+        × ((K : Computation) (counts offs values : List ℕ) (f : Cut → Option Cut) → Laid K n e counts offs (now (starts .entry)) values
+        → Leads n e s off (now (table .entry)) (now (starts .entry)) f → standing n (full K) r (now (ws .exit)) (now (bs .exit)) ≡ build K f []) ⌝ }
+{
+    atom_rows(ws, n, e, s, off, table, starts);
+    bs[0] = 255;
+    if ws[0] == 255 { 0 } else { 1 }
+}
+
+// 01, either sign: its table says which event of the station has the next value that passes.
+pub fn range(
     ws: &mut [u8],
     bs: &mut [u8],
     n: usize,
@@ -156,7 +180,7 @@ pub fn atom(
     requires { ⌜ (s < n) × ((e + 1) * n ≤ length (now ws)) × (16 * n ≤ length (now bs)) ⌝ }
     ensures { λ r. ⌜ (r ≤ 1) × (0 < r → getD (now (ws .exit)) 0 0 ≡ 255 → ⊥)
         × ((K : Computation) → Laid K n e (now (counts .entry)) (now (offs .entry)) (now (starts .entry)) (now (values .entry))
-        → standing n (full K) r (now (ws .exit)) (now (bs .exit)) ≡ build K (raiseAtom K s (passes sign lo hi)) []) ⌝ }
+        → standing n (full K) r (now (ws .exit)) (now (bs .exit)) ≡ build K (raiseAtom K sign (inRange s lo hi)) []) ⌝ }
 {
     let off = offs[s] as usize;
     let mut table = [255u8; 256];
@@ -169,7 +193,5 @@ pub fn atom(
         lo,
         hi,
     );
-    atom_rows(ws, n, e, s, off, &table, starts);
-    bs[0] = 255;
-    if ws[0] == 255 { 0 } else { 1 }
+    atom(ws, bs, n, e, s, off, &table, starts)
 }

@@ -1,29 +1,29 @@
--- An atom's bytes are its station, lo and hi.
+-- Each atom's token by its function; no other token stands there.
+use mathlib.Core.Path.{_≡_, ap, _∙_}
+use Prim.Native.Nat.{ℕ, _<_}
 use native.Mathlib.Omega.{arith}
+use mathlib.Core.List.{List}
+use mathlib.Core.Bool.{Bool}
+use lib.ListN.{getD}
+use Rattle.basis.specs.Contract.{Ready}
+use Rattle.basis.proofs.Atoms.{head-is, token-is}
 use Rattle.basis.proofs.Operands as laws
 use borrow.Author.Needs.{needs}
 use Rattle.basis.proofs.leaf.Statement.{statement}
 use Rattle.basis.proofs.leaf.Tie as tie
 
-shared-slice-read-s : tie.Need-shared-slice-read-s
-shared-slice-read-s c =
-    omega (arith, laws.atom-long _ _ _ _ _ _ _ _ _ _ (c .before .before .before .before .before .before .pre .0) (c .before .before .before .before .before .before .pre .1))
+-- The token is an atom's.
+token-there : (s : Bool) (n e : ℕ) (q counts offs starts values : List ℕ) (mw mb : ℕ) → Ready s n e q counts offs starts values mw mb
+    → (1 < getD q 0 0 → getD q 0 0 < 7 → ⊥) → getD q 0 0 ≡ 1
+token-there s n e q counts offs starts values mw mb r k =
+    let h = laws.ready-atom s n e q counts offs starts values mw mb r k in
+    ap (λ (l : List ℕ). getD l 0 0) (h .1) ∙ head-is (h .0) (r .rest) ∙ token-is (h .0)
 
-cast-s : tie.Need-cast-s
-cast-s c = omega (arith, c .before .before .before .before .before .shared-slice-known .given 1)
+shared-slice-read-t : tie.Need-shared-slice-read-t
+shared-slice-read-t c = laws.question-some _ _ _ _ _ _ _ _ _ _ (c .before .before .before .before .before .before .pre .0)
 
-word-requires : tie.Need-word-requires
-word-requires c κs =
-    omega (arith, laws.atom-long _ _ _ _ _ _ _ _ _ _ (c .before .before .before .before .before .before .pre .0) (c .before .before .before .before .before .before .pre .1))
-
-word-requires-2 : tie.Need-word-requires-2
-word-requires-2 c κs =
-    omega (arith, laws.atom-long _ _ _ _ _ _ _ _ _ _ (c .before .before .before .before .before .before .before .pre .0) (c .before .before .before .before .before .before .before .pre .1))
-
-atom-requires : tie.Need-atom-requires
-atom-requires c κs =
-    let p = c .before .before .before .before .before .before .before .before .before .before .pre in
-    ((p .0 .computation, p .0 .laid), (laws.atom-station _ _ _ _ _ _ _ _ _ _ (p .0) (p .1), laws.atom-cells _ _ _ _ _ _ _ _ _ _ (p .0), laws.atom-bars _ _ _ _ _ _ _ _ _ _ (p .0)))
+range-requires : tie.Need-range-requires
+range-requires c κs = search needs
 
 same-length : tie.Need-same-length
 same-length c = search needs
@@ -32,19 +32,22 @@ same-length-2 : tie.Need-same-length-2
 same-length-2 c = search needs
 
 returns : tie.Need-returns
-returns c =
-    let a = c .before .before .before .before .before .before .before .before .before .before .before .before .before .before .before .args in
-    laws.made-atom (a .sign) (a .n) (a .e) (a .q .now) (a .counts .now) (a .offs .now) (a .starts .now) (a .values .now) _ _ _ (c .before .before .before .before .before .before .before .before .word .result) (c .before .before .before .before .before .before .before .word2 .result) (c .before .before .before .before .before .before .before .before .before .before .before .before .before .before .before .pre .1) (c .before .before .before .before .before .before .before .before .word .ensures) (c .before .before .before .before .before .before .before .word2 .ensures) (c .before .before .before .before .atom .ensures .0) (c .before .before .before .before .atom .ensures .1) (c .before .before .before .before .atom .ensures .2)
+returns c = search needs
+
+returns-2 : tie.Need-returns-2
+returns-2 c = let p = c .before .before .before .before .before .before .before .pre in absurd (omega (arith, token-there _ _ _ _ _ _ _ _ _ _ (p .0) (p .1), c .match .keys2))
+
+returns-3 : tie.Need-returns-3
+returns-3 c = let p = c .before .before .before .before .before .before .before .pre in absurd (c .match .rest .0 .1 (token-there _ _ _ _ _ _ _ _ _ _ (p .0) (p .1)))
 
 pub leaf-spec : {M : Type 1} → statement M
 leaf-spec =
     tie.close
     (tie.spec
-    shared-slice-read-s
-    cast-s
-    word-requires
-    word-requires-2
-    atom-requires
+    shared-slice-read-t
+    range-requires
     same-length
     same-length-2
-    returns)
+    returns
+    returns-2
+    returns-3)

@@ -5,7 +5,7 @@ use mathlib.Core.Logic.{⊎-elim}
 use mathlib.Core.Bool.{Bool}
 use native.Mathlib.Omega.{arith}
 use lib.ListN.{length, getD, length-replicate, length-set}
-use Rattle.model.specs.Rules.{passes}
+use Rattle.model.specs.Atom.{passes}
 use Rattle.steps.specs.Rows.{entry}
 use Rattle.steps.proofs.Laws as laws
 use borrow.Author.Needs.{needs}

@@ -1,6 +1,6 @@
 -- The three cases of a value: below lo, above hi, between.
 use native.Mathlib.Omega.{arith}
-use Rattle.steps.proofs.Laws as laws
+use Rattle.steps.proofs.Ranges as laws
 use Rattle.steps.proofs.passing.Statement.{statement}
 use Rattle.steps.proofs.passing.Tie as tie
 
