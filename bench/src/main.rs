@@ -3,8 +3,10 @@
 //! Usage: bench [FOLDER]      from the repository's root, after `rt check moments` and `rt staticlib exports`; FOLDER: docs; exit code 2
 //!                            and one line where something that it needs is not there
 //!        bench run           the times of one run, a line for each log and code
-//!        bench print CODE    answers an accepted log from standard input by another code: `independent` or `plain`
+//!        bench print CODE    answers a log from standard input by another code: `independent` or `plain`
+//!        bench check [LOGS] [SEED]    compares what the other codes print, on the corpus and on logs of the comparison
 mod arena;
+mod check;
 mod codes;
 mod counted;
 mod plain;
@@ -93,9 +95,17 @@ fn missing(folder: &str) -> Vec<String> {
 }
 
 /// Ends with one line on standard error.
-fn refuse(why: &str) -> ! {
+fn end(code: i32, why: &str) -> ! {
     eprintln!("bench: {why}");
-    exit(2)
+    exit(code)
+}
+
+fn refuse(why: &str) -> ! {
+    end(2, why)
+}
+
+fn checked(logs: u64, seed: u64) -> u64 {
+    check::run(logs, seed).unwrap_or_else(|why| end(1, &why))
 }
 
 fn main() {
@@ -104,6 +114,10 @@ fn main() {
     let folder = match words[..] {
         ["run"] => return std::print!("{}", timed::run()),
         ["print", code] => return print(PEERS.iter().find(|p| p.name == code).unwrap_or_else(|| refuse("no such code"))),
+        ["check", ref numbers @ ..] if numbers.len() < 3 => {
+            let number = |i: usize, usual| numbers.get(i).map_or(usual, |n| n.parse().unwrap_or_else(|_| refuse("usage: bench check [LOGS] [SEED]")));
+            return println!("{} logs, all equal", checked(number(0, check::LOGS), number(1, check::SEED)));
+        }
         [folder] => folder,
         [] => "docs",
         _ => refuse("usage: bench [FOLDER]"),
@@ -112,6 +126,7 @@ fn main() {
     if !missing.is_empty() {
         refuse(&missing.join("; "));
     }
+    checked(check::LOGS, check::SEED);
     let (rows, programs, memory) = (timed::grid(), counted::programs(), counted::memory());
     let page = [
         opening(),

@@ -1,7 +1,7 @@
 //! The basis in plain Rust: cuts handed on by value, a row an Option, a structure its rows by station.
 use compare::formula::{Token, Tokens};
 use compare::log::{contained, Cut, Log};
-use compare::operations::answer_line;
+use compare::operations::{answer_line, printed_by};
 
 fn join(c: &Cut, d: &Cut) -> Cut {
     std::array::from_fn(|j| c[j].max(d[j]))
@@ -104,6 +104,5 @@ pub fn answer(data: &[u8], q: usize) -> Vec<u8> {
 }
 
 pub fn printed(data: &[u8]) -> Vec<u8> {
-    let log = Log::read(data).unwrap();
-    log.questions.iter().flat_map(|q| answer_question(&log, q)).collect()
+    printed_by(data, answer_question)
 }

@@ -83,10 +83,14 @@ pub fn holds(data: &[u8], q: usize, cut: &[u8], workspace: usize, bars: usize) -
     Ok(w.basis(&mut Tokens(f), true).iter().any(|s| w.belongs(s, &c)))
 }
 
-/// What the program prints.
-pub fn printed(data: &[u8]) -> Vec<u8> {
+/// What the program prints, by a rule that answers a question.
+pub fn printed_by(data: &[u8], answer: impl Fn(&Log, &[Token]) -> Vec<u8>) -> Vec<u8> {
     match Log::read(data) {
         Err(Refusal(fault, at)) => line(&[0x50, fault.number(), (at / 256) as u8, (at % 256) as u8]),
-        Ok(log) => log.questions.iter().flat_map(|q| answer_question(&log, q)).collect(),
+        Ok(log) => log.questions.iter().flat_map(|q| answer(&log, q)).collect(),
     }
+}
+
+pub fn printed(data: &[u8]) -> Vec<u8> {
+    printed_by(data, answer_question)
 }
