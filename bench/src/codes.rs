@@ -1,5 +1,5 @@
 //! The codes beside which the proved one is measured: one more is one more entry here.
-use crate::plain;
+use crate::{fast, plain};
 use compare::operations::{self, BARS, WORKSPACE};
 
 pub struct Peer {
@@ -31,6 +31,15 @@ pub const PEERS: &[Peer] = &[
         target: Some(0.5),
         answer: |data, q, out| operations::put(&plain::answer(data, q), out),
         printed: |data, out| operations::put(&plain::printed(data), out),
+    },
+    Peer {
+        name: "fast",
+        about: "Rust code of bench/ made for speed, with the same lines: eight counts joined and sixteen digits decoded at once, and in a pair \
+            with a range the rounds worked out once for each count of its station and looked up by every start",
+        colour: "#909",
+        target: None,
+        answer: fast::answer,
+        printed: fast::printed,
     },
 ];
 

@@ -3,12 +3,13 @@
 //! Usage: bench [FOLDER]      from the repository's root, after `rt check moments` and `rt staticlib exports`; FOLDER: docs; exit code 2
 //!                            and one line where something that it needs is not there
 //!        bench run           the times of one run, a line for each log and code
-//!        bench print CODE    answers a log from standard input by another code: `independent` or `plain`
+//!        bench print CODE    answers a log from standard input by another code: `independent`, `plain` or `fast`
 //!        bench check [LOGS] [SEED]    compares what the other codes print, on the corpus and on logs of the comparison
 mod arena;
 mod check;
 mod codes;
 mod counted;
+mod fast;
 mod plain;
 mod plot;
 mod spin;
