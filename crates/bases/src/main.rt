@@ -4,9 +4,10 @@ ghost use mathlib.Core.Path.{_≡_};
 ghost use mathlib.Core.List.{List};
 ghost use Prim.Native.Nat.{ℕ, _+_, _*_, _≤_, _<_};
 ghost use lib.ListN.{length};
+ghost use Rattle.model.specs.Limits.{limits};
 ghost use Rattle.model.specs.Formula.{Formula};
 ghost use Rattle.model.specs.Computation.{Computation};
-ghost use Rattle.log.specs.Loaded.{Accepts};
+ghost use Rattle.load.specs.Loading.{Accepts};
 ghost use Rattle.verdict.specs.Questions.{Question};
 ghost use Rattle.finder.specs.Prepared.{Prepared};
 
@@ -109,7 +110,7 @@ fn print_questions(
     let counts = s.counts;
     let mut i = 0;
     while i < s.questions {
-        let q = verdict::frames::question_at(list, k, e + 1 + i);
+        let q = verdict::frames::question_at(list, k, s.first_question() + i);
         print_basis(q, n, e, &counts, offs, starts, values, ws, bs);
         i += 1;
     }
@@ -118,7 +119,7 @@ fn print_questions(
 // The same for a log that is loaded.
 fn print_loaded(list: &[u8], k: usize, table: &[u8], s: frame::State)
     requires { ⌜ (k ≤ length (now list)) × (length (now table) ≡ 10240) ⌝ }
-    requires { ⌜ ((log : List ℕ) × Accepts log s k (now list) (now table)) ⌝ }
+    requires { ⌜ ((log : List ℕ) × Accepts limits log s k (now list) (now table)) ⌝ }
 {
     let counts = s.counts;
     let mut starts = [0u8; 1024];
@@ -131,16 +132,16 @@ fn print_loaded(list: &[u8], k: usize, table: &[u8], s: frame::State)
 
 // The bases of a log, or its refusal.
 fn print_log(log: &[u8]) {
-    let mut list = [0u8; 4096];
-    let mut table = [0u8; 10240];
-    let loaded = log::load(log, &mut list, &mut table);
+    let mut list = [0u8; model::Log::LIST];
+    let mut table = [0u8; model::Log::STORE];
+    let loaded = load::load(model::Log::limits(), log, &mut list, &mut table);
     let outcome = loaded.outcome;
     match outcome {
-        log::Outcome::Refused(refusal) => {
+        load::Acceptance::Refused(refusal) => {
             trial::print_refusal(refusal);
             io::write_all(1, b"\n");
         }
-        log::Outcome::Accepted => {
+        load::Acceptance::Accepted => {
             let s = loaded.state;
             print_loaded(&list, loaded.length, &table, s);
         }

@@ -16,21 +16,11 @@ use Rattle.model.specs.Frames.{words, framesOf}
 use Rattle.model.specs.Formula.{Formula, formulaOf, sound}
 use Rattle.model.specs.Computation.{stations, eventCount, clockOk}
 use Rattle.model.specs.Size.{fits}
-use Rattle.model.specs.Reading.{Reading, nothing, begun, Step, go, fault, check, headerForm, opened, admitHeader, stationOf, eventOf, eventForm, extended, unasked, admitEvent, asked, admitQuestion, admit, Result, refused, accepted, finish, proceed, readItems, readLog, readFrames, readList}
+use Rattle.model.specs.Reading.{Reading, nothing, begun, Step, go, fault, check, headerForm, withHeader, admitHeader, stationOf, eventOf, eventForm, withEvent, unasked, admitEvent, withQuestion, asked, admitQuestion, admit, Result, refused, accepted, finish, proceed, readItems, readLog, readFrames, readList}
 use Rattle.codec.proofs.Bytes.{length-words}
 use Rattle.codec.proofs.Cases.{cases, and-true, between-true}
 
 -- ONE FRAME
-
--- What has been read after a header, an event, a question.
-abbrev pub withHeader : Reading → List ℕ → Reading
-withHeader r f = record { computation = opened (words (drop 1 f)); questions = r .questions; frames = r .frames ++ ((0x10 ∷ f) ∷ []) }
-
-abbrev pub withEvent : Reading → List ℕ → Reading
-withEvent r f = record { computation = extended (r .computation) (stationOf f) (eventOf f); questions = r .questions; frames = r .frames ++ ((0x20 ∷ f) ∷ []) }
-
-abbrev pub withQuestion : Reading → List ℕ → Formula → Reading
-withQuestion r f φ = record { computation = r .computation; questions = r .questions ++ (φ ∷ []); frames = r .frames ++ ((0x30 ∷ f) ∷ []) }
 
 -- A frame that is let in, with the tests that it passed, and what has been read after it.
 pub data Admitted (m : Limits) (r : Reading) : List ℕ → Reading → Type 0 where

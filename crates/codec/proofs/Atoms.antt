@@ -55,7 +55,7 @@ spelling (inRange s lo hi) = record {
 
 -- What an atom names fits its bytes.
 abbrev pub SmallAtom : Atom → Type 0
-SmallAtom (inRange s lo hi) = (s < 256) × (lo < 65536) × (hi < 65536)
+SmallAtom (inRange s lo hi) = (s < 256) × (lo < 256 * 256) × (hi < 256 * 256)
 
 range-bytes : (q : List ℕ) → 5 ≤ length q → Bytes q → (atomBytes (atomOf 1 q) ≡ 1 ∷ take 5 q) × SmallAtom (atomOf 1 q)
 unfolding atomBytes atomOf word

@@ -1,6 +1,6 @@
 -- Lists of bytes: numbers below 256; and the numbers that two bytes make.
 use mathlib.Core.Path.{_≡_, refl}
-use Prim.Native.Nat.{ℕ, zero, suc, _+_, _/_, _<_}
+use Prim.Native.Nat.{ℕ, zero, suc, _+_, _*_, _/_, _<_}
 use mathlib.Core.List.{List, [], _∷_, _++_}
 use native.Mathlib.Omega.{arith}
 use lib.ListN.{length, getD, drop}
@@ -38,11 +38,11 @@ bytes-drop n l h i = rw getD-drop (h (n + i))
 
 -- TWO BYTES
 
-pub word-small : (f : List ℕ) → Bytes f → word f < 65536
+pub word-small : (f : List ℕ) → Bytes f → word f < 256 * 256
 unfolding word
 word-small f h = omega (arith, h 0, h 1)
 
-pub words-small : (f : List ℕ) → Bytes f → (j : ℕ) → getD (words f) j 0 < 65536
+pub words-small : (f : List ℕ) → Bytes f → (j : ℕ) → getD (words f) j 0 < 256 * 256
 unfolding words
 words-small [] h j = omega arith
 words-small (a ∷ []) h j = omega arith

@@ -1,10 +1,14 @@
 -- What is asked of an accepted log is answered as promised: demands 2 and 3, of the definitions and of the operations over them.
 use mathlib.Core.Path.{_≡_, refl, sym, _∙_}
 use Prim.Native.Nat.{ℕ, _≤_}
+use native.Mathlib.Omega.{arith}
+use native.Mathlib.Nat.{le-trans}
 use mathlib.Core.List.{List, [], _∷_}
 use lib.ListN.{length, take, drop}
 use lib.Seq.{take-at}
 use borrow.Author.Tests.{le-ltb}
+use Rattle.model.specs.declared.Limits.{Limits}
+use Rattle.model.specs.Limits.{workspaceSize, barspaceSize, lineSize}
 use Rattle.model.specs.Formula.{Formula}
 use Rattle.model.specs.Cut.{Cut}
 use Rattle.model.specs.Computation.{Computation, Consistent, stations}
@@ -17,6 +21,7 @@ use Rattle.lattice.proofs.Consistency.{consistent-iff}
 use Rattle.lattice.proofs.Held.{fits-to}
 use Rattle.lattice.proofs.Line.{answer-fits}
 use Rattle.lattice.proofs.Answers.{answered, told}
+use Rattle.codec.specs.Limits.{Suitable}
 use Rattle.codec.proofs.Answers.{Shown, answer-same}
 use Rattle.codec.proofs.Readings.{Posed, asked-valid}
 
@@ -27,18 +32,18 @@ answered-shown a = record { sized = all-members (a .cuts) (a .sized); counts = a
 pub answered-tells : {K : Computation} {f : Formula} {line : List ℕ} (a : Answered K f line) (b : Answer) → Shown (stations K) b → line ≡ answerLine b → b ≡ record { start = a .start; cuts = a .cuts; rounds = a .rounds }
 answered-tells {K} a b h e = answer-same (stations K) b _ h (answered-shown a) (sym e ∙ a .encodes)
 
-module _ {log : List ℕ} {q : ℕ} {K : Computation} {f : Formula} (a : Asked log q K f) where
-  posed : Posed K f
+module _ {m : Limits} (fit : Suitable m) {log : List ℕ} {q : ℕ} {K : Computation} {f : Formula} (a : Asked m log q K f) where
+  posed : Posed m K f
   posed = asked-valid a
 
   -- THE ANSWER
 
   -- Demand 3, of the answer's line.
   pub asked-answered : Answered K f (answerLine (answer K f))
-  asked-answered = answered K (posed .valid) (posed .few) f (posed .fitting)
+  asked-answered = answered K (posed .valid) (omega (arith, posed .few, fit .events)) f (posed .fitting)
 
-  pub asked-line-fits : length (answerLine (answer K f)) ≤ 273
-  asked-line-fits = answer-fits K (posed .valid) f (fits-to f (posed .fitting) .2) (posed .high)
+  pub asked-line-fits : length (answerLine (answer K f)) ≤ lineSize
+  asked-line-fits = answer-fits K (posed .valid) f (fits-to f (posed .fitting) .2) (le-trans (posed .high) (fit .stations))
 
   -- Demand 2, of the test at a cut.
   pub asked-tested : (c : Cut) → Consistent K c → Tested K f c (gives (yesNo (trueAt K f c) ∷ []))
@@ -46,23 +51,23 @@ module _ {log : List ℕ} {q : ℕ} {K : Computation} {f : Formula} (a : Asked l
 
   -- THE OPERATIONS, with room enough
 
-  module _ (ws bs : ℕ) (hw : 65536 ≤ ws) (hb : 8192 ≤ bs) where
+  module _ (ws bs : ℕ) (hw : workspaceSize ≤ ws) (hb : barspaceSize ≤ bs) where
     -- Answer writes the answer's line and gives its length.
-    pub asked-written : (out : List ℕ) → 273 ≤ length out → answerOp log q ws bs out ≡ write (length (answerLine (answer K f)) ∷ []) (answerLine (answer K f)) out
+    pub asked-written : (out : List ℕ) → lineSize ≤ length out → answerOp m log q ws bs out ≡ write (length (answerLine (answer K f)) ∷ []) (answerLine (answer K f)) out
     unfolding answerOp answerEffect questionEffect lineEffect cramped
-    asked-written out h = rw (a .reads, a .is, le-ltb ws 65536 hw, le-ltb bs 8192 hb, le-ltb (length out) 273 h)
+    asked-written out h = rw (a .reads, a .is, le-ltb ws workspaceSize hw, le-ltb bs barspaceSize hb, le-ltb (length out) lineSize h)
 
     -- So demand 3 holds of what stands at the front of the output.
-    pub asked-output : (out : List ℕ) → 273 ≤ length out → Answered K f (take (length (answerLine (answer K f))) (answerOp log q ws bs out .output))
+    pub asked-output : (out : List ℕ) → lineSize ≤ length out → Answered K f (take (length (answerLine (answer K f))) (answerOp m log q ws bs out .output))
     asked-output out h =
         let l = answerLine (answer K f) in
         rw (asked-written out h, take-at l (drop (length l) out) (length l) refl) asked-answered
 
     -- Holds replies what the test at a consistent cut comes to.
-    pub asked-replied : (c : Cut) → Consistent K c → holdsOp log q c ws bs ≡ gives (yesNo (trueAt K f c) ∷ [])
+    pub asked-replied : (c : Cut) → Consistent K c → holdsOp m log q c ws bs ≡ gives (yesNo (trueAt K f c) ∷ [])
     unfolding holdsOp holdsReplyTo cutReply cramped
-    asked-replied c p = rw (a .reads, a .is, consistent-iff K c .1 p, le-ltb ws 65536 hw, le-ltb bs 8192 hb)
+    asked-replied c p = rw (a .reads, a .is, consistent-iff K c .1 p, le-ltb ws workspaceSize hw, le-ltb bs barspaceSize hb)
 
     -- So demand 2 holds of the reply.
-    pub asked-holds : (c : Cut) → Consistent K c → Tested K f c (holdsOp log q c ws bs)
+    pub asked-holds : (c : Cut) → Consistent K c → Tested K f c (holdsOp m log q c ws bs)
     asked-holds c p = rw (asked-replied c p) (asked-tested c p)

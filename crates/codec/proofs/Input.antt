@@ -8,18 +8,19 @@ use borrow.Author.Tests.{lt-leb, leb-true, leb-false}
 use lib.Dec.{leb}
 use lib.ListN.{length, take}
 use lib.Seq.{take-all, length-take-le}
-use Rattle.model.specs.Limits.{limits}
+use Rattle.model.specs.declared.Limits.{Limits}
+use Rattle.model.specs.Limits.{printLimits}
 use Rattle.model.specs.Reading.{refused, readLog}
 use Rattle.model.specs.Operations.{printedOf, inputSize, printed}
 
 -- A log that is too long.
-pub read-long : (log : List ℕ) → limits .bytes < length log → readLog limits log ≡ refused 1 0
+pub read-long : (m : Limits) (log : List ℕ) → m .bytes < length log → readLog m log ≡ refused 1 0
 unfolding readLog
-read-long log h = rw (lt-leb (length log) (limits .bytes) h)
+read-long m log h = rw (lt-leb (length log) (m .bytes) h)
 
-printed-long : (log : List ℕ) → limits .bytes < length log → printed log ≡ printedOf (refused 1 0)
+printed-long : (log : List ℕ) → printLimits .bytes < length log → printed log ≡ printedOf (refused 1 0)
 unfolding printed
-printed-long log h = ap printedOf (read-long log h)
+printed-long log h = ap printedOf (read-long printLimits log h)
 
 -- A file is got whole, or what is got is too long as the file is.
 pub printed-first : (n : ℕ) (file : List ℕ) → inputSize ≤ n → printed (take n file) ≡ printed file

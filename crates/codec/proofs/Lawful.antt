@@ -1,7 +1,7 @@
 -- What every admitted frame keeps: the laws of clocks, the limits, and the agreement of questions and frames.
 use mathlib.Core.Path.{_≡_, refl, ap, _∙_}
 use mathlib.Core.Logic.{inl, inr}
-use Prim.Native.Nat.{ℕ, zero, suc, _+_, _≤_, _<_}
+use Prim.Native.Nat.{ℕ, zero, suc, _+_, _*_, _≤_, _<_}
 use native.Mathlib.Decide.{decLe}
 use native.Mathlib.Omega.{arith}
 use mathlib.Core.Bool.{true}
@@ -36,18 +36,18 @@ pub record Lawful (m : Limits) (r : Reading) : Type 0 where
   -- the questions name stations that are there, and are not too large
   pub good : (q : ℕ) (φ : Formula) → getElem? (r .questions) q ≡ some φ → (sound (stations (r .computation)) φ ≡ true) × (fits φ ≡ true)
   -- the values are of two bytes
-  pub small : Each Bytes (r .frames) → (j k : ℕ) → value (r .computation) j k < 65536
+  pub small : Each Bytes (r .frames) → (j k : ℕ) → value (r .computation) j k < 256 * 256
   -- a header, a frame for each event, a frame for each question
   pub framed : Framed (r .frames) (r .questions)
   pub counted : 0 < stations (r .computation) → length (r .frames) ≡ suc (eventCount (r .computation) + length (r .questions))
 
 -- VALUES
 
-opened-small : (values : List ℕ) → ((j : ℕ) → getD values j 0 < 65536) → (j k : ℕ) → value (opened values) j k < 65536
+opened-small : (values : List ℕ) → ((j : ℕ) → getD values j 0 < 256 * 256) → (j k : ℕ) → value (opened values) j k < 256 * 256
 opened-small values h j zero = omega (arith, h j, value-opened values j)
 opened-small values h j (suc k) = omega (arith, value-none (opened values) j (suc k) (omega (arith, count-opened values j)))
 
-extended-small : (K : Computation) (s : ℕ) (e : Event) → s < length (K .events) → ((j k : ℕ) → value K j k < 65536) → e .value < 65536 → (j k : ℕ) → value (extended K s e) j k < 65536
+extended-small : (K : Computation) (s : ℕ) (e : Event) → s < length (K .events) → ((j k : ℕ) → value K j k < 256 * 256) → e .value < 256 * 256 → (j k : ℕ) → value (extended K s e) j k < 256 * 256
 extended-small K s e there old new j k =
     elim (decLe k (count (extended K s e) j)) [
       | yes l ↦ elim (old-or-new K s e there j k l) [

@@ -15,6 +15,7 @@ pub mod Readings
 pub mod Sizes
 pub mod RoundTrip
 pub mod Operations
+pub mod Suited
 pub mod Demands
 pub mod Printed
 pub mod Input

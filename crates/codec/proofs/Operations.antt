@@ -8,12 +8,13 @@ use lib.Dec.{ltb}
 use lib.ListN.{length, take, drop}
 use lib.Seq.{take-at}
 use borrow.Author.Tests.{le-ltb}
-use Rattle.model.specs.Limits.{limits}
+use Rattle.model.specs.declared.Limits.{Limits}
 use Rattle.model.specs.Frames.{logOf, listOf}
 use Rattle.model.specs.Computation.{stations, eventCount}
 use Rattle.model.specs.Reading.{Reading, Result, refused, accepted, readLog, readList}
 use Rattle.model.specs.Reply.{gives, refuses}
 use Rattle.model.specs.Operations.{Effect, refuse, write, readEffect, readOp, writeEffect, writeOp}
+use Rattle.codec.specs.Limits.{Suitable}
 use Rattle.codec.proofs.Bytes.{Bytes}
 use Rattle.codec.proofs.RoundTrip.{write-then-read, read-then-write}
 
@@ -42,55 +43,55 @@ logged r out = write (length (logOf (r .frames)) ∷ []) (logOf (r .frames)) out
 
 -- WHERE VALUES ARE GIVEN, THE INPUT WAS ACCEPTED
 
-read-gives : (o : Result) (out values : List ℕ) → readEffect o out .reply ≡ gives values → (r : Reading) × (o ≡ accepted r) × (readEffect o out ≡ listed r out)
+read-gives : (lim : Limits) (o : Result) (out values : List ℕ) → readEffect lim o out .reply ≡ gives values → (r : Reading) × (o ≡ accepted r) × (readEffect lim o out ≡ listed r out)
 unfolding readEffect
-read-gives (refused k n) out values e = refuses-gives e
-read-gives (accepted r) out values e = (r, refl, not-refused (ltb (length out) 4096) out values (listed r out) e)
+read-gives lim (refused k n) out values e = refuses-gives e
+read-gives lim (accepted r) out values e = (r, refl, not-refused (ltb (length out) (lim .list)) out values (listed r out) e)
 
-write-gives : (o : Result) (out values : List ℕ) → writeEffect o out .reply ≡ gives values → (r : Reading) × (o ≡ accepted r) × (writeEffect o out ≡ logged r out)
+write-gives : (lim : Limits) (o : Result) (out values : List ℕ) → writeEffect lim o out .reply ≡ gives values → (r : Reading) × (o ≡ accepted r) × (writeEffect lim o out ≡ logged r out)
 unfolding writeEffect
-write-gives (refused k n) out values e = refuses-gives e
-write-gives (accepted r) out values e = (r, refl, not-refused (ltb (length out) 8192) out values (logged r out) e)
+write-gives lim (refused k n) out values e = refuses-gives e
+write-gives lim (accepted r) out values e = (r, refl, not-refused (ltb (length out) (lim .bytes)) out values (logged r out) e)
 
 -- AN ACCEPTED INPUT AND A LONG OUTPUT
 
-read-accepted : (log out : List ℕ) (r : Reading) → readLog limits log ≡ accepted r → 4096 ≤ length out → readOp log out ≡ listed r out
+read-accepted : (lim : Limits) (log out : List ℕ) (r : Reading) → readLog lim log ≡ accepted r → lim .list ≤ length out → readOp lim log out ≡ listed r out
 unfolding readOp readEffect
-read-accepted log out r e h = rw (e, le-ltb (length out) 4096 h)
+read-accepted lim log out r e h = rw (e, le-ltb (length out) (lim .list) h)
 
-write-accepted : (l out : List ℕ) (r : Reading) → readList limits l ≡ accepted r → 8192 ≤ length out → writeOp l out ≡ logged r out
+write-accepted : (lim : Limits) (l out : List ℕ) (r : Reading) → readList lim l ≡ accepted r → lim .bytes ≤ length out → writeOp lim l out ≡ logged r out
 unfolding writeOp writeEffect
-write-accepted l out r e h = rw (e, le-ltb (length out) 8192 h)
+write-accepted lim l out r e h = rw (e, le-ltb (length out) (lim .bytes) h)
 
 -- THE TWO WAYS ROUND
 
 -- Reading the log that Write left gives the list's length and leaves the list.
 pub write-read :
-    (l out buf : List ℕ) (m : ℕ)
+    {lim : Limits} → Suitable lim → (l out buf : List ℕ) (m : ℕ)
     → Bytes l
-    → writeOp l out .reply ≡ gives (m ∷ [])
-    → 4096 ≤ length buf
-    → (r : Reading) × (readList limits l ≡ accepted r) × (readOp (take m (writeOp l out .output)) buf ≡ write (counts r (length l)) l buf)
+    → writeOp lim l out .reply ≡ gives (m ∷ [])
+    → lim .list ≤ length buf
+    → (r : Reading) × (readList lim l ≡ accepted r) × (readOp lim (take m (writeOp lim l out .output)) buf ≡ write (counts r (length l)) l buf)
 unfolding writeOp
-write-read l out buf m b g h =
-    let x = write-gives (readList limits l) out (m ∷ []) g in
+write-read {lim} fit l out buf m b g h =
+    let x = write-gives lim (readList lim l) out (m ∷ []) g in
     let r = x .0 in
-    let t = write-then-read l r b (x .1) in
+    let t = write-then-read fit l r b (x .1) in
     let n : length (logOf (r .frames)) ≡ m = cc (ap (λ (w : Effect). w .reply) (x .2)) in
-    let k = front (writeEffect (readList limits l) out) _ _ out m (x .2) n in
-    (r, x .1, rw k (read-accepted (logOf (r .frames)) buf r (t .0) h ∙ rw (t .1)))
+    let k = front (writeEffect lim (readList lim l) out) _ _ out m (x .2) n in
+    (r, x .1, rw k (read-accepted lim (logOf (r .frames)) buf r (t .0) h ∙ rw (t .1)))
 
 -- Writing the list that Read left gives the log's length and leaves the log.
 pub read-write :
-    (log out buf : List ℕ) (s e q m : ℕ)
-    → readOp log out .reply ≡ gives (s ∷ e ∷ q ∷ m ∷ [])
-    → 8192 ≤ length buf
-    → writeOp (take m (readOp log out .output)) buf ≡ write (length log ∷ []) log buf
+    {lim : Limits} → Suitable lim → (log out buf : List ℕ) (s e q m : ℕ)
+    → readOp lim log out .reply ≡ gives (s ∷ e ∷ q ∷ m ∷ [])
+    → lim .bytes ≤ length buf
+    → writeOp lim (take m (readOp lim log out .output)) buf ≡ write (length log ∷ []) log buf
 unfolding readOp
-read-write log out buf s e q m g h =
-    let x = read-gives (readLog limits log) out (s ∷ e ∷ q ∷ m ∷ []) g in
+read-write {lim} fit log out buf s e q m g h =
+    let x = read-gives lim (readLog lim log) out (s ∷ e ∷ q ∷ m ∷ []) g in
     let r = x .0 in
-    let t = read-then-write log r (x .1) in
+    let t = read-then-write fit log r (x .1) in
     let n : length (listOf (r .frames)) ≡ m = cc (ap (λ (w : Effect). w .reply) (x .2)) in
-    let k = front (readEffect (readLog limits log) out) _ _ out m (x .2) n in
-    rw k (write-accepted (listOf (r .frames)) buf r (t .0) h ∙ rw (t .1))
+    let k = front (readEffect lim (readLog lim log) out) _ _ out m (x .2) n in
+    rw k (write-accepted lim (listOf (r .frames)) buf r (t .0) h ∙ rw (t .1))

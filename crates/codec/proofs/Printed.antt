@@ -4,7 +4,7 @@ use Prim.Native.Nat.{ℕ, zero, suc}
 use mathlib.Core.List.{List, [], _∷_, _++_, map}
 use mathlib.Core.Option.{some}
 use lib.ListN.{length-map, getElem?}
-use Rattle.model.specs.Limits.{limits}
+use Rattle.model.specs.Limits.{printLimits}
 use Rattle.model.specs.Formula.{Formula}
 use Rattle.model.specs.Computation.{Computation}
 use Rattle.model.specs.Answer.{answer, inRow, answerLine}
@@ -13,6 +13,7 @@ use Rattle.model.specs.Operations.{answerLines, printedOf, printed}
 use Rattle.model.specs.Promise.{Asked, Prints}
 use Rattle.codec.proofs.Cases.{none-some}
 use Rattle.codec.proofs.Demands.{asked-answered, asked-written}
+use Rattle.codec.proofs.Suited.{print-suitable}
 
 -- The line to a question.
 abbrev lineTo : Computation → Formula → List ℕ
@@ -29,8 +30,8 @@ line-at K [] q line e = none-some e
 line-at K (f ∷ l) zero line e = (f, refl, cc)
 line-at K (f ∷ l) (suc q) line e = line-at K l q line e
 
-module _ (log : List ℕ) (r : Reading) (e : readLog limits log ≡ accepted r) where
-  asked : (q : ℕ) (f : Formula) → getElem? (r .questions) q ≡ some f → Asked log q (r .computation) f
+module _ (log : List ℕ) (r : Reading) (e : readLog printLimits log ≡ accepted r) where
+  asked : (q : ℕ) (f : Formula) → getElem? (r .questions) q ≡ some f → Asked printLimits log q (r .computation) f
   asked q f i = record { frames = r .frames; questions = r .questions; reads = e; is = i }
 
   pub prints : Prints log r
@@ -42,8 +43,8 @@ module _ (log : List ℕ) (r : Reading) (e : readLog limits log ≡ accepted r) 
     answers = λ q f line i j.
         let x = line-at (r .computation) (r .questions) q line j in
         let same : x .0 ≡ f = cc in
-        rw (x .2, same) (asked-answered (asked q f i));
+        rw (x .2, same) (asked-answered print-suitable (asked q f i));
     unchanged = λ q line j ws bs out hw hb ho.
         let x = line-at (r .computation) (r .questions) q line j in
-        rw (x .2) (asked-written (asked q (x .0) (x .1)) ws bs hw hb out ho);
+        rw (x .2) (asked-written print-suitable (asked q (x .0) (x .1)) ws bs hw hb out ho);
   }

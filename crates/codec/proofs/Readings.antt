@@ -1,13 +1,12 @@
 -- What holds of every accepted log and frame list, and of what is asked there.
 use mathlib.Core.Path.{_≡_, sym}
-use Prim.Native.Nat.{ℕ, suc, _+_, _≤_, _<_}
+use Prim.Native.Nat.{ℕ, suc, _+_, _*_, _≤_, _<_}
 use native.Mathlib.Omega.{arith}
 use mathlib.Core.Bool.{true}
 use mathlib.Core.List.{List, [], _∷_, map}
 use mathlib.Core.Option.{some}
 use lib.ListN.{length, getD}
 use Rattle.model.specs.declared.Limits.{Limits}
-use Rattle.model.specs.Limits.{limits}
 use Rattle.model.specs.Lists.{Member}
 use Rattle.model.specs.Bytes.{Item, frame, linesOf, items}
 use Rattle.model.specs.Frames.{framesOf}
@@ -85,7 +84,7 @@ module _ {m : Limits} {r : Reading} (law : Lawful m r) where
   entries-small j k i = omega (arith, entry-≤ (r .computation) (law .valid) j k i, count-le (r .computation) i, law .few-events)
 
   -- The values of frames of bytes are of two bytes.
-  pub values-small : Each IsFrame (r .frames) → (j k : ℕ) → value (r .computation) j k < 65536
+  pub values-small : Each IsFrame (r .frames) → (j k : ℕ) → value (r .computation) j k < 256 * 256
   values-small h = law .small (all-map (λ f g. g .bytes) h)
 
 -- Question number q stands behind the header and the events.
@@ -97,19 +96,19 @@ question-stands {m} {r} all q h =
     rw (← front) (question-place framed q h)
 
 -- The computation K and a question f of an accepted log.
-pub record Posed (K : Computation) (f : Formula) : Type 0 where
+pub record Posed (m : Limits) (K : Computation) (f : Formula) : Type 0 where
   pub valid : Valid K
   pub low : 1 ≤ stations K
-  pub high : stations K ≤ 8
-  pub few : eventCount K ≤ 127
+  pub high : stations K ≤ m .stations
+  pub few : eventCount K ≤ m .events
   pub named : sound (stations K) f ≡ true
   pub fitting : fits f ≡ true
-  pub values : (j k : ℕ) → value K j k < 65536
-  pub entries : (j k i : ℕ) → clock K j k ! i ≤ 127
+  pub values : (j k : ℕ) → value K j k < 256 * 256
+  pub entries : (j k i : ℕ) → clock K j k ! i ≤ m .events
 
-pub asked-valid : {log : List ℕ} {q : ℕ} {K : Computation} {f : Formula} → Asked log q K f → Posed K f
-asked-valid {log} {q} {K} {f} a =
-    let all = log-accepted limits log _ (a .reads) in
+pub asked-valid : {m : Limits} {log : List ℕ} {q : ℕ} {K : Computation} {f : Formula} → Asked m log q K f → Posed m K f
+asked-valid {m} {log} {q} {K} {f} a =
+    let all = log-accepted m log _ (a .reads) in
     let law = all .lawful in
     record {
       valid = law .valid;
@@ -118,6 +117,6 @@ asked-valid {log} {q} {K} {f} a =
       few = law .few-events;
       named = law .good q f (a .is) .0;
       fitting = law .good q f (a .is) .1;
-      values = values-small law (log-are-frames limits log _ (a .reads));
+      values = values-small law (log-are-frames m log _ (a .reads));
       entries = entries-small law;
     }

@@ -7,7 +7,7 @@ use Prim.Native.Nat.{ℕ, _^_, _≤_, _<_}
 use native.Mathlib.Omega.{arith}
 use lib.ListN.{length, getElem?}
 use lib.Dec.{ltb}
-use Rattle.model.specs.Limits.{limits}
+use Rattle.model.specs.Limits.{limits, lineSize}
 use Rattle.model.specs.Formula.{Formula}
 use Rattle.model.specs.Cut.{Cut}
 use Rattle.model.specs.Computation.{isConsistent}
@@ -16,6 +16,7 @@ use Rattle.model.specs.Reading.{Reading, Result, refused, accepted, readLog, re
 use Rattle.model.specs.Reply.{Reply, gives, refuses}
 use Rattle.model.specs.Operations.{Effect, readEffect, readOp, cramped, lineEffect, questionEffect, answerEffect, answerOp, cutReply, holdsReplyTo, holdsOp, writeEffect, writeOp}
 use Rattle.codec.proofs.Accepted.{accepted-log, accepted-list}
+use Rattle.codec.proofs.Suited.{suitable}
 use Rattle.codec.proofs.Sizes.{short, short-list, short-log}
 use Rattle.codec.proofs.Demands.{asked-line-fits}
 use Rattle.exports.specs.Packed.{pack, packed}
@@ -38,45 +39,45 @@ either : (m : ℕ) (b : Bool) (x y : Effect) → Fair m (x .reply) → Fair m (y
 either m true x y p q = p
 either m false x y p q = q
 
-pub read-fair : (log out : List ℕ) → Fair 4 (readOp log out .reply)
+pub read-fair : (log out : List ℕ) → Fair 4 (readOp limits log out .reply)
 unfolding readOp readEffect
 read-fair log out = by (readLog limits log) refl
   where
-    by : (o : Result) → readLog limits log ≡ o → Fair 4 (readEffect o out .reply)
+    by : (o : Result) → readLog limits log ≡ o → Fair 4 (readEffect limits o out .reply)
     by (refused k n) e = log-named log k n e
     by (accepted r) e =
         let a = accepted-log limits log r e in
-        let s = short r _ a in
-        let l = short-list r _ a in
-        either 4 (ltb (length out) 4096) _ _ (omega arith, omega arith)
-        (refl, (omega (arith, s .eightStations), (omega (arith, s .fewEvents), (omega (arith, s .fewQuestions), omega arith))))
+        let s = short suitable r _ a in
+        let l = short-list suitable r _ a in
+        either 4 (ltb (length out) (limits .list)) _ _ (omega arith, omega arith)
+        (refl, (omega (arith, s .fewStations), (omega (arith, s .fewEvents), (omega (arith, s .fewQuestions), omega arith))))
 
-pub write-fair : (list out : List ℕ) → Fair 1 (writeOp list out .reply)
+pub write-fair : (list out : List ℕ) → Fair 1 (writeOp limits list out .reply)
 unfolding writeOp writeEffect
 write-fair list out = by (readList limits list) refl
   where
-    by : (o : Result) → readList limits list ≡ o → Fair 1 (writeEffect o out .reply)
+    by : (o : Result) → readList limits list ≡ o → Fair 1 (writeEffect limits o out .reply)
     by (refused k n) e = list-named list k n e
     by (accepted r) e =
-        let l = short-log r _ (accepted-list limits list r e .1) in
-        either 1 (ltb (length out) 8192) _ _ (omega arith, omega arith) (refl, omega arith)
+        let l = short-log suitable r _ (accepted-list limits list r e .1) in
+        either 1 (ltb (length out) (limits .bytes)) _ _ (omega arith, omega arith) (refl, omega arith)
 
-pub answer-fair : (log : List ℕ) (q ws bs : ℕ) (out : List ℕ) → Fair 1 (answerOp log q ws bs out .reply)
+pub answer-fair : (log : List ℕ) (q ws bs : ℕ) (out : List ℕ) → Fair 1 (answerOp limits log q ws bs out .reply)
 unfolding answerOp answerEffect questionEffect lineEffect
 answer-fair log q ws bs out = by (readLog limits log) refl
   where
     asks : (r : Reading) → readLog limits log ≡ accepted r → (o : Option Formula) → getElem? (r .questions) q ≡ o → Fair 1 (questionEffect (r .computation) o ws bs out .reply)
     asks r e none i = (omega arith, omega arith)
     asks r e (some f) i =
-        let l = asked-line-fits {K = r .computation} {f = f} (record { frames = r .frames; questions = r .questions; reads = e; is = i }) in
+        let l = asked-line-fits suitable {K = r .computation} {f = f} (record { frames = r .frames; questions = r .questions; reads = e; is = i }) in
         either 1 (cramped ws bs) _ _ (omega arith, omega arith)
-        (either 1 (ltb (length out) 273) _ _ (omega arith, omega arith) (refl, omega arith))
+        (either 1 (ltb (length out) lineSize) _ _ (omega arith, omega arith) (refl, omega arith))
 
     by : (o : Result) → readLog limits log ≡ o → Fair 1 (answerEffect o q ws bs out .reply)
     by (refused k n) e = log-named log k n e
     by (accepted r) e = asks r e (getElem? (r .questions) q) refl
 
-pub holds-fair : (log : List ℕ) (q : ℕ) (c : Cut) (ws bs : ℕ) → Fair 1 (holdsOp log q c ws bs)
+pub holds-fair : (log : List ℕ) (q : ℕ) (c : Cut) (ws bs : ℕ) → Fair 1 (holdsOp limits log q c ws bs)
 unfolding holdsOp holdsReplyTo cutReply
 holds-fair log q c ws bs = by (readLog limits log) refl
   where
@@ -144,18 +145,18 @@ same m (refuses k n) (refuses i j) h p q e =
 
 -- Two replies of one operation that are packed in the same number are the same.
 
-pub read-told : (log out log′ out′ : List ℕ) → packed (readOp log out .reply) ≡ packed (readOp log′ out′ .reply) → readOp log out .reply ≡ readOp log′ out′ .reply
+pub read-told : (log out log′ out′ : List ℕ) → packed (readOp limits log out .reply) ≡ packed (readOp limits log′ out′ .reply) → readOp limits log out .reply ≡ readOp limits log′ out′ .reply
 read-told log out log′ out′ e = same 4 _ _ (omega arith) (read-fair log out) (read-fair log′ out′) e
 
-pub write-told : (list out list′ out′ : List ℕ) → packed (writeOp list out .reply) ≡ packed (writeOp list′ out′ .reply) → writeOp list out .reply ≡ writeOp list′ out′ .reply
+pub write-told : (list out list′ out′ : List ℕ) → packed (writeOp limits list out .reply) ≡ packed (writeOp limits list′ out′ .reply) → writeOp limits list out .reply ≡ writeOp limits list′ out′ .reply
 write-told list out list′ out′ e = same 1 _ _ (omega arith) (write-fair list out) (write-fair list′ out′) e
 
 pub answer-told : (log : List ℕ) (q ws bs : ℕ) (out log′ : List ℕ) (q′ ws′ bs′ : ℕ) (out′ : List ℕ)
-    → packed (answerOp log q ws bs out .reply) ≡ packed (answerOp log′ q′ ws′ bs′ out′ .reply)
-    → answerOp log q ws bs out .reply ≡ answerOp log′ q′ ws′ bs′ out′ .reply
+    → packed (answerOp limits log q ws bs out .reply) ≡ packed (answerOp limits log′ q′ ws′ bs′ out′ .reply)
+    → answerOp limits log q ws bs out .reply ≡ answerOp limits log′ q′ ws′ bs′ out′ .reply
 answer-told log q ws bs out log′ q′ ws′ bs′ out′ e = same 1 _ _ (omega arith) (answer-fair log q ws bs out) (answer-fair log′ q′ ws′ bs′ out′) e
 
 pub holds-told : (log : List ℕ) (q : ℕ) (c : Cut) (ws bs : ℕ) (log′ : List ℕ) (q′ : ℕ) (c′ : Cut) (ws′ bs′ : ℕ)
-    → packed (holdsOp log q c ws bs) ≡ packed (holdsOp log′ q′ c′ ws′ bs′)
-    → holdsOp log q c ws bs ≡ holdsOp log′ q′ c′ ws′ bs′
+    → packed (holdsOp limits log q c ws bs) ≡ packed (holdsOp limits log′ q′ c′ ws′ bs′)
+    → holdsOp limits log q c ws bs ≡ holdsOp limits log′ q′ c′ ws′ bs′
 holds-told log q c ws bs log′ q′ c′ ws′ bs′ e = same 1 _ _ (omega arith) (holds-fair log q c ws bs) (holds-fair log′ q′ c′ ws′ bs′) e

@@ -9,6 +9,7 @@ ghost use mathlib.Core.Path.{_≡_};
 ghost use Prim.Native.Nat.{_≤_, _<_};
 ghost use mathlib.Core.List.{[], _∷_};
 ghost use lib.ListN.{length};
+ghost use Rattle.model.specs.Limits.{limits};
 ghost use Rattle.model.specs.Reply.{gives, refusal};
 ghost use Rattle.model.specs.Operations.{readOp, writeOp, answerOp, holdsOp, Kept};
 ghost use Rattle.exports.specs.Packed.{packed};
@@ -36,8 +37,8 @@ fn packed_counts(l: Log) -> u64
 // Read: the counts of stations, events and questions and the list's length, or a refusal.
 #[no_mangle]
 pub extern "C" fn moment_read(log: &[u8], out: &mut [u8]) -> u64
-    ensures { λ v. ⌜ v ≡ packed (readOp (now (log .entry)) (now (out .entry)) .reply) ⌝ }
-    ensures { λ _. ⌜ now (out .exit) ≡ readOp (now (log .entry)) (now (out .entry)) .output ⌝ }
+    ensures { λ v. ⌜ v ≡ packed (readOp limits (now (log .entry)) (now (out .entry)) .reply) ⌝ }
+    ensures { λ _. ⌜ now (out .exit) ≡ readOp limits (now (log .entry)) (now (out .entry)) .output ⌝ }
 {
     match log::read(log, out) {
         ReadAnswer::Accepted(l) => packed_counts(l),
@@ -48,8 +49,8 @@ pub extern "C" fn moment_read(log: &[u8], out: &mut [u8]) -> u64
 // Write: the log's length, or a refusal.
 #[no_mangle]
 pub extern "C" fn moment_write(list: &[u8], out: &mut [u8]) -> u64
-    ensures { λ v. ⌜ v ≡ packed (writeOp (now (list .entry)) (now (out .entry)) .reply) ⌝ }
-    ensures { λ _. ⌜ now (out .exit) ≡ writeOp (now (list .entry)) (now (out .entry)) .output ⌝ }
+    ensures { λ v. ⌜ v ≡ packed (writeOp limits (now (list .entry)) (now (out .entry)) .reply) ⌝ }
+    ensures { λ _. ⌜ now (out .exit) ≡ writeOp limits (now (list .entry)) (now (out .entry)) .output ⌝ }
 {
     match log::write(list, out) {
         WriteAnswer::Written(n) => n as u64,
@@ -66,10 +67,10 @@ pub extern "C" fn moment_answer(
     bs: &mut [u8],
     out: &mut [u8],
 ) -> u64
-    ensures { λ v. ⌜ v ≡ packed (answerOp (now (log .entry)) question (length (now (ws .entry))) (length (now (bs .entry))) (now (out .entry)) .reply) ⌝ }
-    ensures { λ _. ⌜ now (out .exit) ≡ answerOp (now (log .entry)) question (length (now (ws .entry))) (length (now (bs .entry))) (now (out .entry)) .output ⌝ }
-    ensures { λ _. ⌜ Kept (answerOp (now (log .entry)) question (length (now (ws .entry))) (length (now (bs .entry))) (now (out .entry)) .reply) (now (ws .entry)) (now (ws .exit)) ⌝ }
-    ensures { λ _. ⌜ Kept (answerOp (now (log .entry)) question (length (now (ws .entry))) (length (now (bs .entry))) (now (out .entry)) .reply) (now (bs .entry)) (now (bs .exit)) ⌝ }
+    ensures { λ v. ⌜ v ≡ packed (answerOp limits (now (log .entry)) question (length (now (ws .entry))) (length (now (bs .entry))) (now (out .entry)) .reply) ⌝ }
+    ensures { λ _. ⌜ now (out .exit) ≡ answerOp limits (now (log .entry)) question (length (now (ws .entry))) (length (now (bs .entry))) (now (out .entry)) .output ⌝ }
+    ensures { λ _. ⌜ Kept (answerOp limits (now (log .entry)) question (length (now (ws .entry))) (length (now (bs .entry))) (now (out .entry)) .reply) (now (ws .entry)) (now (ws .exit)) ⌝ }
+    ensures { λ _. ⌜ Kept (answerOp limits (now (log .entry)) question (length (now (ws .entry))) (length (now (bs .entry))) (now (out .entry)) .reply) (now (bs .entry)) (now (bs .exit)) ⌝ }
 {
     match finder::answer(log, question, ws, bs, out) {
         LineAnswer::Written(n) => n as u64,
@@ -86,9 +87,9 @@ pub extern "C" fn moment_holds(
     ws: &mut [u8],
     bs: &mut [u8],
 ) -> u64
-    ensures { λ v. ⌜ v ≡ packed (holdsOp (now (log .entry)) question (now (cut .entry)) (length (now (ws .entry))) (length (now (bs .entry)))) ⌝ }
-    ensures { λ _. ⌜ Kept (holdsOp (now (log .entry)) question (now (cut .entry)) (length (now (ws .entry))) (length (now (bs .entry)))) (now (ws .entry)) (now (ws .exit)) ⌝ }
-    ensures { λ _. ⌜ Kept (holdsOp (now (log .entry)) question (now (cut .entry)) (length (now (ws .entry))) (length (now (bs .entry)))) (now (bs .entry)) (now (bs .exit)) ⌝ }
+    ensures { λ v. ⌜ v ≡ packed (holdsOp limits (now (log .entry)) question (now (cut .entry)) (length (now (ws .entry))) (length (now (bs .entry)))) ⌝ }
+    ensures { λ _. ⌜ Kept (holdsOp limits (now (log .entry)) question (now (cut .entry)) (length (now (ws .entry))) (length (now (bs .entry)))) (now (ws .entry)) (now (ws .exit)) ⌝ }
+    ensures { λ _. ⌜ Kept (holdsOp limits (now (log .entry)) question (now (cut .entry)) (length (now (ws .entry))) (length (now (bs .entry)))) (now (bs .entry)) (now (bs .exit)) ⌝ }
 {
     match finder::holds(log, question, cut, ws, bs) {
         HoldsAnswer::Yes => 1,

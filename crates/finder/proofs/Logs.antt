@@ -1,5 +1,5 @@
 -- What a loaded log gives: its computation can be laid out, and each question of it can be found and worked out.
-use mathlib.Core.Path.{_≡_, refl, sym, ap, subst, _∙_}
+use mathlib.Core.Path.{_≡_, refl, sym, ap, _∙_}
 use mathlib.Core.Bool.{true}
 use mathlib.Core.List.{List, [], _∷_}
 use mathlib.Core.Option.{none, some}
@@ -7,11 +7,12 @@ use Prim.Native.Nat.{ℕ, zero, suc, _+_, _≤_, _<_}
 use native.Mathlib.Omega.{arith}
 use lib.ListN.{length, take, getD, getElem?, length-map, List·getD-map}
 use lib.Seq.{ext-getD, getD-take, length-take-le}
+use Rattle.model.specs.declared.Limits.{Limits}
 use Rattle.model.specs.Limits.{limits}
 use Rattle.model.specs.Lists.{total}
 use Rattle.model.specs.Formula.{Formula}
 use Rattle.model.specs.Cut.{Cut}
-use Rattle.model.specs.Computation.{Computation, stations, count, full, eventCount, isConsistent}
+use Rattle.model.specs.Computation.{Computation, stations, count, full, isConsistent}
 use Rattle.model.specs.Reading.{refused, readLog}
 use Rattle.model.specs.declared.Refusal.{Refusal}
 use Rattle.model.specs.Reply.{number}
@@ -23,12 +24,15 @@ use Rattle.codec.proofs.Bytes.{Bytes, bytes-tail}
 use Rattle.codec.proofs.Formulas.{prefix-formula}
 use Rattle.codec.proofs.Lawful.{Lawful}
 use Rattle.codec.proofs.QuestionFrames.{questionFrames, question-spelt}
-use Rattle.codec.proofs.Readings.{IsAccepted, log-accepted, log-are-frames, question-stands}
+use Rattle.codec.proofs.Readings.{log-are-frames}
 use Rattle.structure.specs.Laid.{Laid}
 use Rattle.frame.specs.declared.State.{State}
-use Rattle.log.specs.declared.Outcome.{Outcome}
-use Rattle.log.specs.declared.Outcome.the-variants.{Accepted, Refused}
-use Rattle.log.specs.Loaded.{Accepts, Loads}
+use Rattle.frame.specs.State.{firstQuestion}
+use Rattle.load.specs.declared.Acceptance.{Acceptance}
+use Rattle.load.specs.declared.Acceptance.the-variants.{Accepted, Refused}
+use Rattle.load.specs.Loading.{Accepts, Loads}
+use Rattle.load.proofs.Loads as load
+use Rattle.load.proofs.Questions.{good, question-frame}
 use Rattle.layout.specs.Loaded.{Loaded}
 use Rattle.verdict.specs.Questions.{Asks, Question}
 
@@ -46,19 +50,16 @@ no-question (f ∷ l) (suc q) h = no-question l q (omega arith)
 
 -- What loading came to.
 
-pub to-accepts : (o : Outcome) (log : List ℕ) (s : State) (k : ℕ) (list t : List ℕ) → Loads o log s k list t → o ≡ Accepted → Accepts log s k list t
-to-accepts o log s k list t h e = subst (λ (x : Outcome). Loads x log s k list t) e h
+pub to-accepts : (m : Limits) → m ≡ limits → (o : Acceptance) (log : List ℕ) (s : State) (k : ℕ) (list t : List ℕ) → Loads m o log s k list t → o ≡ Accepted → Accepts limits log s k list t
+to-accepts m is o log s k list t h e = rw is at (load.to-accepts m o log s k list t h e)
 
-pub to-refused : (o : Outcome) (log : List ℕ) (s : State) (k : ℕ) (list t : List ℕ) → Loads o log s k list t → (x : Refusal) → o ≡ Refused x
+pub to-refused : (m : Limits) → m ≡ limits → (o : Acceptance) (log : List ℕ) (s : State) (k : ℕ) (list t : List ℕ) → Loads m o log s k list t → (x : Refusal) → o ≡ Refused x
     → readLog limits log ≡ refused (number (x .fault)) (x .line)
-to-refused o log s k list t h x e = subst (λ (x : Outcome). Loads x log s k list t) e h
+to-refused m is o log s k list t h x e = rw is at (load.to-refused m o log s k list t h x e)
 
-module _ {log : List ℕ} {s : State} {k : ℕ} {list t : List ℕ} (a : Accepts log s k list t) where
-  good : IsAccepted limits (a .reading)
-  good = log-accepted limits log (a .reading) (a .is)
-
+module _ {log : List ℕ} {s : State} {k : ℕ} {list t : List ℕ} (a : Accepts limits log s k list t) where
   law : Lawful limits (a .reading)
-  law = good .lawful
+  law = good a .lawful
 
   pub question-count : s .questions ≡ length (a .reading .questions)
   question-count = a .holds .questions
@@ -81,7 +82,7 @@ module _ {log : List ℕ} {s : State} {k : ℕ} {list t : List ℕ} (a : Accepts
       ext-getD 0 (take (s .stations) (s .counts)) (full K) (x ∙ sym y) (λ i h.
       getD-take (s .stations) (s .counts) i 0 (omega arith) ∙ a .holds .stored .each i ∙ sym (List·getD-map length (K .events) i []))
 
-  pub counts-few : total (take (s .stations) (s .counts)) ≤ 127
+  pub counts-few : total (take (s .stations) (s .counts)) ≤ limits .events
   counts-few = omega (arith, ap total counts-full, law .few-events)
 
   -- A consistent cut has a count for each station.
@@ -94,26 +95,22 @@ module _ {log : List ℕ} {s : State} {k : ℕ} {list t : List ℕ} (a : Accepts
   abbrev pub asked : ℕ → List ℕ
   asked q = getD (questionFrames (a .reading .frames)) q []
 
-  pub asks : (q : ℕ) → q < s .questions → Asks list k (s .events + 1 + q) (asked q)
-  asks q h =
-      let inside : q < length (a .reading .questions) = omega (arith, question-count) in
-      let place : s .events + 1 + q ≡ suc (eventCount (a .reading .computation)) + q = omega (arith, a .holds .events) in
-      record {
-        frames = a .reading .frames;
-        listed = a .listed;
-        there = omega (arith, law .counted (good .begun), place);
-        is = ap (λ (i : ℕ). getD (a .reading .frames) i []) place ∙ question-stands good q inside;
-      }
+  pub asks : (q : ℕ) → q < s .questions → Asks list k (firstQuestion s + q) (asked q)
+  asks q h = let x = question-frame a q h in record { frames = a .reading .frames; listed = a .listed; there = x .0; is = x .1 }
+
+  -- As the code counts it.
+  pub asks-at : (first : ℕ) → first ≡ firstQuestion s → (q : ℕ) → q < s .questions → Asks list k (first + q) (asked q)
+  asks-at first e q h = rw e (asks q h)
 
   asked-bytes : (q : ℕ) → q < s .questions → Bytes (asked q)
   unfolding asks
   asked-bytes q h =
       let x = asks q h in
-      let framed = all-at (log-are-frames limits log (a .reading) (a .is)) [] (s .events + 1 + q) (x .there) .bytes in
+      let framed = all-at (log-are-frames limits log (a .reading) (a .is)) [] (firstQuestion s + q) (x .there) .bytes in
       bytes-tail 0x30 (asked q) (rw (x .is) at framed)
 
   module _ (q : ℕ) (f : Formula) (is : getElem? (a .reading .questions) q ≡ some f) where
-    pub is-asked : Asked log q (a .reading .computation) f
+    pub is-asked : Asked limits log q (a .reading .computation) f
     is-asked = record { frames = a .reading .frames; questions = a .reading .questions; reads = a .is; is = is }
 
     pub question : {offs starts values : List ℕ} (bytes : List ℕ) → bytes ≡ asked q → q < s .questions

@@ -9,20 +9,22 @@ use native.Mathlib.Numerals.{add-one}
 use lib.ListN.{length, take, drop, getElem?, length-append, length-drop}
 use lib.Seq.{take-at, drop-at, take-all, drop-drop}
 use borrow.Rule.Slice.PartMut.{putMid}
-use Rattle.model.specs.Limits.{limits}
+use Rattle.model.specs.Limits.{printLimits}
 use Rattle.model.specs.Formula.{Formula}
 use Rattle.model.specs.Computation.{Computation}
 use Rattle.model.specs.Answer.{answer, answerLine, refusalLine}
 use Rattle.model.specs.Reading.{Reading, refused, accepted, readLog}
 use Rattle.model.specs.Operations.{answerLines, printedOf, inputSize, printed}
+use Rattle.codec.proofs.Suited.{suitable}
 use Rattle.codec.proofs.Demands.{asked-line-fits}
 use Rattle.codec.proofs.Input.{printed-first}
+use Rattle.frame.specs.State.{firstQuestion}
 use Rattle.frame.specs.declared.State.{State}
 use Rattle.structure.proofs.Parts.{put-end}
 use Rattle.report.specs.Written.{Written}
 use Rattle.verdict.specs.Questions.{Asks, Question}
 use Rattle.finder.specs.Prepared.{Prepared}
-use Rattle.finder.proofs.Logs.{question-there, question-count, asks, is-asked, question}
+use Rattle.finder.proofs.Logs.{question-there, question-count, asks-at, is-asked, question}
 
 lines-append : (K : Computation) (l m : List Formula) → answerLines K (l ++ m) ≡ answerLines K l ++ answerLines K m
 unfolding answerLines
@@ -64,17 +66,17 @@ unfolding answerLines
 printing-none s k list offs starts values was = record { is = λ p. record { size = refl; front = refl } }
 
 module _ {s : State} {k : ℕ} {list offs starts values : List ℕ} (out : List ℕ) (end i : ℕ) (h : i < s .questions) (inside : end ≤ length out)
-    (bytes : List ℕ) (found : (q : List ℕ) → Asks list k (s .events + 1 + i) q → bytes ≡ q) (r : ℕ) (part : List ℕ)
+    (first : ℕ) (begins : first ≡ firstQuestion s) (bytes : List ℕ) (found : (q : List ℕ) → Asks list k (first + i) q → bytes ≡ q) (r : ℕ) (part : List ℕ)
     (put : (K : Computation) (f : Formula) → Question K f bytes (s .stations) (s .events) (s .counts) offs starts values → Written (answerLine (answer K f)) r (take (length out - end) (drop end out)) part) where
   there : (p : Prepared s k list offs starts values) → (f : Formula) × (getElem? (p .accepts .reading .questions) i ≡ some f)
   there p = question-there (p .accepts .reading .questions) i (omega (arith, question-count (p .accepts)))
 
   written : (p : Prepared s k list offs starts values) → Written (answerLine (answer (p .accepts .reading .computation) (there p .0))) r (take (length out - end) (drop end out)) part
-  written p = put (p .accepts .reading .computation) (there p .0) (question (p .accepts) i (there p .0) (there p .1) bytes (found _ (asks (p .accepts) i h)) h (p .laid))
+  written p = put (p .accepts .reading .computation) (there p .0) (question (p .accepts) i (there p .0) (there p .1) bytes (found _ (asks-at (p .accepts) first begins i h)) h (p .laid))
 
   -- One more line, of at most 273 bytes.
   pub line-short : Prepared s k list offs starts values → r ≤ 273
-  line-short p = omega (arith, written p .size, asked-line-fits (is-asked (p .accepts) i (there p .0) (there p .1)))
+  line-short p = omega (arith, written p .size, asked-line-fits suitable (is-asked (p .accepts) i (there p .0) (there p .1)))
 
   pub printing-more : {was : List ℕ} → Printing s k list offs starts values was out end i → Printing s k list offs starts values was (putMid end (length out - end) out part) (end + r) (i + 1)
   printing-more {was} g = record {
@@ -97,12 +99,12 @@ printed-so {l} {m} {was} {out} {r} e w =
     ((size, omega (arith, w .size, ap length (w .front), length-append l (drop (length l) was))), w .front ∙ rw (sym (w .size), e))
 
 -- The lines of an accepted log.
-pub printed-lines : (log : List ℕ) (r : Reading) → readLog limits log ≡ accepted r → answerLines (r .computation) (r .questions) ≡ printed log
+pub printed-lines : (log : List ℕ) (r : Reading) → readLog printLimits log ≡ accepted r → answerLines (r .computation) (r .questions) ≡ printed log
 unfolding printed printedOf
 printed-lines log r e = rw e
 
 -- The line of a refused one.
-pub printed-refusal : (log : List ℕ) (k n : ℕ) → readLog limits log ≡ refused k n → (x : ℕ) → x ≡ k → refusalLine x n ≡ printed log
+pub printed-refusal : (log : List ℕ) (k n : ℕ) → readLog printLimits log ≡ refused k n → (x : ℕ) → x ≡ k → refusalLine x n ≡ printed log
 unfolding printed printedOf
 printed-refusal log k n e x same = rw (e, same)
 

@@ -19,6 +19,7 @@ use Rattle.model.specs.Reply.{Reply, gives, refuses}
 use Rattle.model.specs.Operations.{Effect, refuse, write, Kept, cramped, lineEffect, questionEffect, answerEffect, answerOp, cutReply, holdsReplyTo, holdsOp}
 use Rattle.model.specs.Promise.{Asked, Answered, Tested}
 use Rattle.report.specs.Written.{Written}
+use Rattle.codec.proofs.Suited.{suitable}
 use Rattle.codec.proofs.Demands.{asked-answered, asked-holds}
 use Rattle.finder.proofs.Logs.{no-question}
 
@@ -40,15 +41,15 @@ kept (refuses k n) l = refl
 
 module _ (log : List ℕ) (q ws bs : ℕ) (out : List ℕ) where
   -- Demand 3.
-  line-promised : (reply : Reply) (out′ : List ℕ) → reply ≡ (answerOp log q ws bs out) .reply → out′ ≡ (answerOp log q ws bs out) .output
-      → (K : Computation) (f : Formula) → Asked log q K f → (m : ℕ) → reply ≡ gives (m ∷ []) → Answered K f (take m out′)
+  line-promised : (reply : Reply) (out′ : List ℕ) → reply ≡ (answerOp limits log q ws bs out) .reply → out′ ≡ (answerOp limits log q ws bs out) .output
+      → (K : Computation) (f : Formula) → Asked limits log q K f → (m : ℕ) → reply ≡ gives (m ∷ []) → Answered K f (take m out′)
   unfolding answerOp answerEffect questionEffect lineEffect cramped
   line-promised reply out′ e o K f a m g = by (ltb ws 65536 || ltb bs 8192) (ltb (length out) 273) (rw (a .reads, a .is))
     where
       l : List ℕ
       l = answerLine (answer K f)
 
-      by : (b d : Bool) → answerOp log q ws bs out ≡ cond b (refuse 11 0 out) (cond d (refuse 12 0 out) (write (length l ∷ []) l out)) → Answered K f (take m out′)
+      by : (b d : Bool) → answerOp limits log q ws bs out ≡ cond b (refuse 11 0 out) (cond d (refuse 12 0 out) (write (length l ∷ []) l out)) → Answered K f (take m out′)
       by true d x =
           let w : reply ≡ refuses 11 0 = e ∙ ap (λ (y : Effect). y .reply) x in
           let z : _≡_ {A = ℕ} 0 1 = cc in
@@ -62,95 +63,95 @@ module _ (log : List ℕ) (q ws bs : ℕ) (out : List ℕ) where
           let v : out′ ≡ l ++ drop (length l) out = o ∙ ap (λ (y : Effect). y .output) x in
           let size : length l ≡ m = cc in
           let part : take m out′ ≡ l = ap (take m) v ∙ take-at l (drop (length l) out) m size in
-          rw part (asked-answered a)
+          rw part (asked-answered suitable a)
 
   -- The refusals in their order, and the line.
 
-  pub answer-refused : (k n : ℕ) → readLog limits log ≡ refused k n → answerOp log q ws bs out ≡ refuse k n out
+  pub answer-refused : (k n : ℕ) → readLog limits log ≡ refused k n → answerOp limits log q ws bs out ≡ refuse k n out
   unfolding answerOp answerEffect
   answer-refused k n e = rw e
 
   module _ (r : Reading) (e : readLog limits log ≡ accepted r) where
-    pub answer-none : length (r .questions) ≤ q → answerOp log q ws bs out ≡ refuse 10 0 out
+    pub answer-none : length (r .questions) ≤ q → answerOp limits log q ws bs out ≡ refuse 10 0 out
     unfolding answerOp answerEffect questionEffect
     answer-none h = rw (e, no-question (r .questions) q h)
 
     module _ (f : Formula) (is : getElem? (r .questions) q ≡ some f) where
-      pub answer-cramped : cramped ws bs ≡ true → answerOp log q ws bs out ≡ refuse 11 0 out
+      pub answer-cramped : cramped ws bs ≡ true → answerOp limits log q ws bs out ≡ refuse 11 0 out
       unfolding answerOp answerEffect questionEffect
       answer-cramped h = rw (e, is, h)
 
-      pub answer-short : cramped ws bs ≡ false → length out < 273 → answerOp log q ws bs out ≡ refuse 12 0 out
+      pub answer-short : cramped ws bs ≡ false → length out < 273 → answerOp limits log q ws bs out ≡ refuse 12 0 out
       unfolding answerOp answerEffect questionEffect lineEffect
       answer-short h o = rw (e, is, h, lt-ltb (length out) 273 o)
 
       pub answer-line : cramped ws bs ≡ false → 273 ≤ length out
-          → answerOp log q ws bs out ≡ write (length (answerLine (answer (r .computation) f)) ∷ []) (answerLine (answer (r .computation) f)) out
+          → answerOp limits log q ws bs out ≡ write (length (answerLine (answer (r .computation) f)) ∷ []) (answerLine (answer (r .computation) f)) out
       unfolding answerOp answerEffect questionEffect lineEffect
       answer-line h o = rw (e, is, h, le-ltb (length out) 273 o)
 
 -- All that is promised of Answer: its reply, the output, workspace and bar space, and demand 3. (Where a line was written, nothing is promised of the last two.)
 abbrev pub Met : List ℕ → ℕ → List ℕ → List ℕ → List ℕ → Reply → List ℕ → List ℕ → List ℕ → Type 0
 Met log q ws bs out reply ws′ bs′ out′ =
-    (reply ≡ (answerOp log q (length ws) (length bs) out) .reply)
-    × ((out′ ≡ (answerOp log q (length ws) (length bs) out) .output)
+    (reply ≡ (answerOp limits log q (length ws) (length bs) out) .reply)
+    × ((out′ ≡ (answerOp limits log q (length ws) (length bs) out) .output)
     × ((Kept reply ws ws′ × Kept reply bs bs′)
-    × ((K : Computation) (f : Formula) → Asked log q K f → (m : ℕ) → reply ≡ gives (m ∷ []) → Answered K f (take m out′))))
+    × ((K : Computation) (f : Formula) → Asked limits log q K f → (m : ℕ) → reply ≡ gives (m ∷ []) → Answered K f (take m out′))))
 
 module _ (log : List ℕ) (q : ℕ) (ws bs out : List ℕ) where
-  pub met-refused : (reply : Reply) (k n : ℕ) → reply ≡ refuses k n → answerOp log q (length ws) (length bs) out ≡ refuse k n out → Met log q ws bs out reply ws bs out
+  pub met-refused : (reply : Reply) (k n : ℕ) → reply ≡ refuses k n → answerOp limits log q (length ws) (length bs) out ≡ refuse k n out → Met log q ws bs out reply ws bs out
   met-refused reply k n r e =
-      let p : reply ≡ (answerOp log q (length ws) (length bs) out) .reply = r ∙ ap (λ (y : Effect). y .reply) (sym e) in
-      let o : out ≡ (answerOp log q (length ws) (length bs) out) .output = ap (λ (y : Effect). y .output) (sym e) in
+      let p : reply ≡ (answerOp limits log q (length ws) (length bs) out) .reply = r ∙ ap (λ (y : Effect). y .reply) (sym e) in
+      let o : out ≡ (answerOp limits log q (length ws) (length bs) out) .output = ap (λ (y : Effect). y .output) (sym e) in
       (p, (o, ((kept reply ws, kept reply bs), line-promised log q (length ws) (length bs) out reply out p o)))
 
-  pub met-written : (l : List ℕ) → answerOp log q (length ws) (length bs) out ≡ write (length l ∷ []) l out
+  pub met-written : (l : List ℕ) → answerOp limits log q (length ws) (length bs) out ≡ write (length l ∷ []) l out
       → (size : ℕ) (out′ : List ℕ) → Written l size out out′ → Met log q ws bs out (gives (size ∷ [])) ws bs out′
   met-written l e size out′ w =
-      let p : gives (size ∷ []) ≡ (answerOp log q (length ws) (length bs) out) .reply = ap (λ (i : ℕ). gives (i ∷ [])) (w .size) ∙ ap (λ (y : Effect). y .reply) (sym e) in
-      let o : out′ ≡ (answerOp log q (length ws) (length bs) out) .output = w .front ∙ ap (λ (y : Effect). y .output) (sym e) in
+      let p : gives (size ∷ []) ≡ (answerOp limits log q (length ws) (length bs) out) .reply = ap (λ (i : ℕ). gives (i ∷ [])) (w .size) ∙ ap (λ (y : Effect). y .reply) (sym e) in
+      let o : out′ ≡ (answerOp limits log q (length ws) (length bs) out) .output = w .front ∙ ap (λ (y : Effect). y .output) (sym e) in
       (p, (o, ((tt, tt), line-promised log q (length ws) (length bs) out (gives (size ∷ [])) out′ p o)))
 
 -- HOLDS
 
 module _ (log : List ℕ) (q : ℕ) (c : Cut) (ws bs : ℕ) where
-  pub holds-refused : (k n : ℕ) → readLog limits log ≡ refused k n → holdsOp log q c ws bs ≡ refuses k n
+  pub holds-refused : (k n : ℕ) → readLog limits log ≡ refused k n → holdsOp limits log q c ws bs ≡ refuses k n
   unfolding holdsOp holdsReplyTo
   holds-refused k n e = rw e
 
   module _ (r : Reading) (e : readLog limits log ≡ accepted r) where
-    pub holds-none : length (r .questions) ≤ q → holdsOp log q c ws bs ≡ refuses 10 0
+    pub holds-none : length (r .questions) ≤ q → holdsOp limits log q c ws bs ≡ refuses 10 0
     unfolding holdsOp holdsReplyTo cutReply
     holds-none h = rw (e, no-question (r .questions) q h)
 
     module _ (f : Formula) (is : getElem? (r .questions) q ≡ some f) where
-      pub holds-inconsistent : isConsistent (r .computation) c ≡ false → holdsOp log q c ws bs ≡ refuses 13 0
+      pub holds-inconsistent : isConsistent (r .computation) c ≡ false → holdsOp limits log q c ws bs ≡ refuses 13 0
       unfolding holdsOp holdsReplyTo cutReply
       holds-inconsistent p = rw (e, is, p)
 
       module _ (p : isConsistent (r .computation) c ≡ true) where
-        pub holds-cramped : cramped ws bs ≡ true → holdsOp log q c ws bs ≡ refuses 11 0
+        pub holds-cramped : cramped ws bs ≡ true → holdsOp limits log q c ws bs ≡ refuses 11 0
         unfolding holdsOp holdsReplyTo cutReply
         holds-cramped h = rw (e, is, p, h)
 
-        pub holds-told : cramped ws bs ≡ false → (b : Bool) → trueAt (r .computation) f c ≡ b → holdsOp log q c ws bs ≡ gives (yesNo b ∷ [])
+        pub holds-told : cramped ws bs ≡ false → (b : Bool) → trueAt (r .computation) f c ≡ b → holdsOp limits log q c ws bs ≡ gives (yesNo b ∷ [])
         unfolding holdsOp holdsReplyTo cutReply
         holds-told h b t = rw (e, is, p, h, t)
 
 -- All that is promised of Holds: its reply, workspace and bar space, and demand 2.
 abbrev pub Told : List ℕ → ℕ → Cut → List ℕ → List ℕ → Reply → List ℕ → List ℕ → Type 0
 Told log q c ws bs reply ws′ bs′ =
-    (reply ≡ holdsOp log q c (length ws) (length bs))
+    (reply ≡ holdsOp limits log q c (length ws) (length bs))
     × ((Kept reply ws ws′ × Kept reply bs bs′)
-    × ((K : Computation) (f : Formula) → Asked log q K f → Consistent K c → 65536 ≤ length ws → 8192 ≤ length bs → Tested K f c reply))
+    × ((K : Computation) (f : Formula) → Asked limits log q K f → Consistent K c → 65536 ≤ length ws → 8192 ≤ length bs → Tested K f c reply))
 
 module _ (log : List ℕ) (q : ℕ) (c : Cut) (ws bs : List ℕ) where
-  cut-promised : (reply : Reply) → reply ≡ holdsOp log q c (length ws) (length bs)
-      → (K : Computation) (f : Formula) → Asked log q K f → Consistent K c → 65536 ≤ length ws → 8192 ≤ length bs → Tested K f c reply
-  cut-promised reply e K f a p hw hb = rw e (asked-holds a (length ws) (length bs) hw hb c p)
+  cut-promised : (reply : Reply) → reply ≡ holdsOp limits log q c (length ws) (length bs)
+      → (K : Computation) (f : Formula) → Asked limits log q K f → Consistent K c → 65536 ≤ length ws → 8192 ≤ length bs → Tested K f c reply
+  cut-promised reply e K f a p hw hb = rw e (asked-holds suitable a (length ws) (length bs) hw hb c p)
 
-  pub told-refused : (reply : Reply) (k n : ℕ) → reply ≡ refuses k n → holdsOp log q c (length ws) (length bs) ≡ refuses k n → Told log q c ws bs reply ws bs
+  pub told-refused : (reply : Reply) (k n : ℕ) → reply ≡ refuses k n → holdsOp limits log q c (length ws) (length bs) ≡ refuses k n → Told log q c ws bs reply ws bs
   told-refused reply k n r e = (r ∙ sym e, ((kept reply ws, kept reply bs), cut-promised reply (r ∙ sym e)))
 
-  pub told-given : (reply : Reply) (x : ℕ) → reply ≡ gives (x ∷ []) → holdsOp log q c (length ws) (length bs) ≡ gives (x ∷ []) → (ws′ bs′ : List ℕ) → Told log q c ws bs reply ws′ bs′
+  pub told-given : (reply : Reply) (x : ℕ) → reply ≡ gives (x ∷ []) → holdsOp limits log q c (length ws) (length bs) ≡ gives (x ∷ []) → (ws′ bs′ : List ℕ) → Told log q c ws bs reply ws′ bs′
   told-given reply x r e ws′ bs′ = (r ∙ sym e, ((rw r tt, rw r tt), cut-promised reply (r ∙ sym e)))

@@ -8,6 +8,7 @@ ghost use mathlib.Core.List.{List, [], _∷_, _++_};
 ghost use mathlib.Core.Option.{some};
 ghost use Prim.Native.Nat.{ℕ, _≤_, _<_};
 ghost use lib.ListN.{length, take, drop, getElem?};
+ghost use Rattle.model.specs.Limits.{limits};
 ghost use Rattle.model.specs.Formula.{Formula};
 ghost use Rattle.model.specs.Computation.{Computation, Consistent};
 ghost use Rattle.model.specs.Answer.{trueAt, answer, answerLine};
@@ -15,21 +16,21 @@ ghost use Rattle.model.specs.Reply.{gives, refuses, number, lineReply, holdsRep
 ghost use Rattle.model.specs.Operations.{Kept, cramped, answerOp, holdsOp, answerLines, printed};
 ghost use Rattle.model.specs.Promise.{Asked, Answered, Tested};
 ghost use Rattle.report.specs.Written.{Written};
-ghost use Rattle.log.specs.Loaded.{Accepts};
+ghost use Rattle.load.specs.Loading.{Accepts};
 ghost use Rattle.finder.specs.Prepared.{Prepared};
 
 // The cells of the workspace and of the bar space, and the bytes of the longest answer line.
-pub const WORKSPACE: usize = 65536;
+pub const WORKSPACE: usize = model::Log::WORKSPACE;
 
-pub const BARSPACE: usize = 8192;
+pub const BARSPACE: usize = model::Log::BARSPACE;
 
-pub const LINE: usize = 273;
+pub const LINE: usize = model::Log::LINE;
 
 // What the program asks for: one byte more than a log may have, so that it sees a log that is too long.
 pub const INPUT: usize = model::Log::BYTES + 1;
 
 // The most that is printed: an answer line for each question.
-pub const PRINTED: usize = model::Log::QUESTIONS * LINE;
+pub const PRINTED: usize = model::Log::PRINTED;
 
 // Is the workspace or the bar space too small, by their sizes?
 fn cramped(ws: usize, bs: usize) -> bool
@@ -64,8 +65,8 @@ fn answer_loaded(
     out: &mut [u8],
 ) -> usize
     requires { ⌜ (question < s .questions) × (k ≤ length (now list)) × (length (now table) ≡ 10240) × (65536 ≤ length (now ws)) × (8192 ≤ length (now bs)) × (273 ≤ length (now out)) ⌝ }
-    requires { ⌜ ((log : List ℕ) × Accepts log s k (now list) (now table)) ⌝ }
-    ensures { λ r. ⌜ ((log : List ℕ) (a : Accepts log s k (now (list .entry)) (now (table .entry))) (f : Formula) → getElem? (a .reading .questions) question ≡ some f → Written (answerLine (answer (a .reading .computation) f)) r (now (out .entry)) (now (out .exit))) ⌝ }
+    requires { ⌜ ((log : List ℕ) × Accepts limits log s k (now list) (now table)) ⌝ }
+    ensures { λ r. ⌜ ((log : List ℕ) (a : Accepts limits log s k (now (list .entry)) (now (table .entry))) (f : Formula) → getElem? (a .reading .questions) question ≡ some f → Written (answerLine (answer (a .reading .computation) f)) r (now (out .entry)) (now (out .exit))) ⌝ }
 {
     let n = s.stations;
     let e = s.events;
@@ -73,7 +74,7 @@ fn answer_loaded(
     let mut starts = [0u8; 1024];
     let mut values = [0u16; 135];
     let offs = layout::lay(table, n, &counts, &mut starts, &mut values);
-    let q = question_at(list, k, e + 1 + question);
+    let q = question_at(list, k, s.first_question() + question);
     put_line(q, n, e, &counts, &offs, &starts, &values, ws, bs, out)
 }
 
@@ -85,18 +86,18 @@ pub fn answer(
     bs: &mut [u8],
     out: &mut [u8],
 ) -> model::LineAnswer
-    ensures { λ r. ⌜ lineReply r ≡ (answerOp (now (log .entry)) question (length (now (ws .entry))) (length (now (bs .entry))) (now (out .entry))) .reply ⌝ }
-    ensures { λ r. ⌜ now (out .exit) ≡ (answerOp (now (log .entry)) question (length (now (ws .entry))) (length (now (bs .entry))) (now (out .entry))) .output ⌝ }
+    ensures { λ r. ⌜ lineReply r ≡ (answerOp limits (now (log .entry)) question (length (now (ws .entry))) (length (now (bs .entry))) (now (out .entry))) .reply ⌝ }
+    ensures { λ r. ⌜ now (out .exit) ≡ (answerOp limits (now (log .entry)) question (length (now (ws .entry))) (length (now (bs .entry))) (now (out .entry))) .output ⌝ }
     ensures { λ r. ⌜ Kept (lineReply r) (now (ws .entry)) (now (ws .exit)) × Kept (lineReply r) (now (bs .entry)) (now (bs .exit)) ⌝ }
-    ensures { λ r. ⌜ ((K : Computation) (f : Formula) → Asked (now (log .entry)) question K f → (m : ℕ) → lineReply r ≡ gives (m ∷ []) → Answered K f (take m (now (out .exit)))) ⌝ }
+    ensures { λ r. ⌜ ((K : Computation) (f : Formula) → Asked limits (now (log .entry)) question K f → (m : ℕ) → lineReply r ≡ gives (m ∷ []) → Answered K f (take m (now (out .exit)))) ⌝ }
 {
-    let mut list = [0u8; 4096];
-    let mut table = [0u8; 10240];
-    let loaded = log::load(log, &mut list, &mut table);
+    let mut list = [0u8; model::Log::LIST];
+    let mut table = [0u8; model::Log::STORE];
+    let loaded = load::load(model::Log::limits(), log, &mut list, &mut table);
     let outcome = loaded.outcome;
     match outcome {
-        log::Outcome::Refused(refusal) => model::LineAnswer::Refused(refusal),
-        log::Outcome::Accepted => {
+        load::Acceptance::Refused(refusal) => model::LineAnswer::Refused(refusal),
+        load::Acceptance::Accepted => {
             let s = loaded.state;
             if s.questions <= question {
                 return line_refused(model::Fault::NoQuestion);
@@ -138,8 +139,8 @@ fn holds_loaded(
     bs: &mut [u8],
 ) -> bool
     requires { ⌜ (question < s .questions) × (k ≤ length (now list)) × (length (now table) ≡ 10240) × (length (now cut) ≡ s .stations) × (65536 ≤ length (now ws)) × (8192 ≤ length (now bs)) ⌝ }
-    requires { ⌜ ((log : List ℕ) × Accepts log s k (now list) (now table)) ⌝ }
-    ensures { λ r. ⌜ ((log : List ℕ) (a : Accepts log s k (now (list .entry)) (now (table .entry))) (f : Formula) → getElem? (a .reading .questions) question ≡ some f → r ≡ trueAt (a .reading .computation) f (now (cut .entry))) ⌝ }
+    requires { ⌜ ((log : List ℕ) × Accepts limits log s k (now list) (now table)) ⌝ }
+    ensures { λ r. ⌜ ((log : List ℕ) (a : Accepts limits log s k (now (list .entry)) (now (table .entry))) (f : Formula) → getElem? (a .reading .questions) question ≡ some f → r ≡ trueAt (a .reading .computation) f (now (cut .entry))) ⌝ }
 {
     let n = s.stations;
     let e = s.events;
@@ -147,7 +148,7 @@ fn holds_loaded(
     let mut starts = [0u8; 1024];
     let mut values = [0u16; 135];
     let offs = layout::lay(table, n, &counts, &mut starts, &mut values);
-    let asked = question_at(list, k, e + 1 + question);
+    let asked = question_at(list, k, s.first_question() + question);
     true_at(asked, n, e, &counts, &offs, &starts, &values, cut, ws, bs)
 }
 
@@ -159,17 +160,17 @@ pub fn holds(
     ws: &mut [u8],
     bs: &mut [u8],
 ) -> model::HoldsAnswer
-    ensures { λ r. ⌜ holdsReply r ≡ holdsOp (now (log .entry)) question (now (cut .entry)) (length (now (ws .entry))) (length (now (bs .entry))) ⌝ }
+    ensures { λ r. ⌜ holdsReply r ≡ holdsOp limits (now (log .entry)) question (now (cut .entry)) (length (now (ws .entry))) (length (now (bs .entry))) ⌝ }
     ensures { λ r. ⌜ Kept (holdsReply r) (now (ws .entry)) (now (ws .exit)) × Kept (holdsReply r) (now (bs .entry)) (now (bs .exit)) ⌝ }
-    ensures { λ r. ⌜ ((K : Computation) (f : Formula) → Asked (now (log .entry)) question K f → Consistent K (now (cut .entry)) → 65536 ≤ length (now (ws .entry)) → 8192 ≤ length (now (bs .entry)) → Tested K f (now (cut .entry)) (holdsReply r)) ⌝ }
+    ensures { λ r. ⌜ ((K : Computation) (f : Formula) → Asked limits (now (log .entry)) question K f → Consistent K (now (cut .entry)) → 65536 ≤ length (now (ws .entry)) → 8192 ≤ length (now (bs .entry)) → Tested K f (now (cut .entry)) (holdsReply r)) ⌝ }
 {
-    let mut list = [0u8; 4096];
-    let mut table = [0u8; 10240];
-    let loaded = log::load(log, &mut list, &mut table);
+    let mut list = [0u8; model::Log::LIST];
+    let mut table = [0u8; model::Log::STORE];
+    let loaded = load::load(model::Log::limits(), log, &mut list, &mut table);
     let outcome = loaded.outcome;
     match outcome {
-        log::Outcome::Refused(refusal) => model::HoldsAnswer::Refused(refusal),
-        log::Outcome::Accepted => {
+        load::Acceptance::Refused(refusal) => model::HoldsAnswer::Refused(refusal),
+        load::Acceptance::Accepted => {
             let s = loaded.state;
             if s.questions <= question {
                 return holds_refused(model::Fault::NoQuestion);
@@ -211,7 +212,7 @@ fn put_lines(
     let mut end = 0;
     let mut i = 0;
     while i < s.questions {
-        let q = question_at(list, k, e + 1 + i);
+        let q = question_at(list, k, s.first_question() + i);
         end += put_line(
             q,
             n,
@@ -232,8 +233,8 @@ fn put_lines(
 // Lays a loaded log out, and writes the answer lines to all its questions; hands back where the last ends.
 fn print_loaded(list: &[u8], k: usize, table: &[u8], s: frame::State, out: &mut [u8]) -> usize
     requires { ⌜ (k ≤ length (now list)) × (length (now table) ≡ 10240) × (4368 ≤ length (now out)) ⌝ }
-    requires { ⌜ ((log : List ℕ) × Accepts log s k (now list) (now table)) ⌝ }
-    ensures { λ r. ⌜ ((log : List ℕ) (a : Accepts log s k (now (list .entry)) (now (table .entry))) → Written (answerLines (a .reading .computation) (a .reading .questions)) r (now (out .entry)) (now (out .exit))) ⌝ }
+    requires { ⌜ ((log : List ℕ) × Accepts limits log s k (now list) (now table)) ⌝ }
+    ensures { λ r. ⌜ ((log : List ℕ) (a : Accepts limits log s k (now (list .entry)) (now (table .entry))) → Written (answerLines (a .reading .computation) (a .reading .questions)) r (now (out .entry)) (now (out .exit))) ⌝ }
 {
     let counts = s.counts;
     let mut starts = [0u8; 1024];
@@ -249,16 +250,16 @@ pub fn print_log(log: &[u8], out: &mut [u8; PRINTED]) -> usize
     ensures { λ r. ⌜ (r ≡ length (printed (now (log .entry)))) × (r ≤ length (now (out .exit))) ⌝ }
     ensures { λ r. ⌜ now (out .exit) ≡ printed (now (log .entry)) ++ drop r (now (out .entry)) ⌝ }
 {
-    let mut list = [0u8; 4096];
-    let mut table = [0u8; 10240];
-    let loaded = log::load(log, &mut list, &mut table);
+    let mut list = [0u8; model::Log::LIST];
+    let mut table = [0u8; model::Log::STORE];
+    let loaded = load::load(model::Log::limits(), log, &mut list, &mut table);
     let outcome = loaded.outcome;
     match outcome {
-        log::Outcome::Refused(refusal) => {
+        load::Acceptance::Refused(refusal) => {
             let fault = refusal.fault;
             report::put_refusal(fault.number(), refusal.line, out)
         }
-        log::Outcome::Accepted => {
+        load::Acceptance::Accepted => {
             let s = loaded.state;
             print_loaded(&list, loaded.length, &table, s, out)
         }

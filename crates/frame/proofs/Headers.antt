@@ -4,83 +4,86 @@ use mathlib.Core.Bool.{Bool, true, false, and-false}
 use mathlib.Core.List.{List, [], _∷_, _++_}
 use Prim.Native.Nat.{ℕ, zero, suc, _+_, _*_, _<_, _≤_}
 use native.Mathlib.Omega.{arith}
+use native.Mathlib.Nat.{le-trans}
 use lib.Dec.{eqb, ltb}
 use borrow.Author.Tests.{eq-eqb, ne-eqb, le-leb, lt-leb, eqb-true, eqb-false, ltb-true, ltb-false}
 use lib.ListN.{length, take, drop, getD, length-drop, length-replicate, getD-replicate, List·getD-eq-default}
 use lib.Seq.{getD-drop, getD-take, length-take-le, drop-drop, ext-getD}
-use Rattle.model.specs.Limits.{limits}
+use Rattle.model.specs.declared.Limits.{Limits}
+use Rattle.model.specs.Limits.{limits, slotSize, storeSize}
 use Rattle.model.specs.Lists.{between}
 use Rattle.model.specs.Frames.{word, words}
 use Rattle.model.specs.Cut.{_!_, empty}
 use Rattle.model.specs.Computation.{stations, clock, value}
-use Rattle.model.specs.Reading.{Reading, headerForm, opened, check, admit, admitHeader, go, fault}
+use Rattle.model.specs.Reading.{Reading, headerForm, opened, withHeader, check, admit, admitHeader, go, fault}
 use Rattle.lattice.proofs.Histories.{length-opened, count-opened, eventCount-opened}
+use Rattle.codec.specs.Limits.{NoLarger}
 use Rattle.wire.specs.Put.{putOf}
 use Rattle.frame.specs.declared.State.{State}
 use Rattle.frame.specs.declared.Step.the-variants.{Next}
 use Rattle.frame.specs.Table.{slot, Stored}
-use Rattle.frame.specs.State.{Bounded, Goes, Admits}
+use Rattle.frame.specs.State.{afterHeader, Bounded, Goes, Admits}
 use Rattle.frame.specs.Header.{Headed, opening, Open}
 use Rattle.frame.proofs.Parts.{part-same, part-other}
 use Rattle.frame.proofs.Slots.{apart, value-at, clock-at}
 use Rattle.frame.proofs.Steps.{Frame, kind-header, kind-front, begun-not, begun-yes}
 
 -- FORM
-module _ (f : List ℕ) where
-  short : length f < 2 → headerForm limits (drop 1 f) ≡ false
+module _ (m : Limits) (f : List ℕ) where
+  short : length f < 2 → headerForm m (drop 1 f) ≡ false
   unfolding headerForm
   short h = rw (lt-leb 1 (length (drop 1 f)) (simp length-drop (omega arith)))
 
-  many : 8 < getD f 1 0 → headerForm limits (drop 1 f) ≡ false
+  many : m .stations < getD f 1 0 → headerForm m (drop 1 f) ≡ false
   unfolding headerForm between
   many h =
       let g : getD (drop 1 f) 0 0 ≡ getD f 1 0 = getD-drop 1 f 0 0 in
-      rw (g, lt-leb (getD f 1 0) 8 h) (simp and-false)
+      rw (g, lt-leb (getD f 1 0) (m .stations) h) (simp and-false)
 
-  none : getD f 1 0 ≡ 0 → headerForm limits (drop 1 f) ≡ false
+  none : getD f 1 0 ≡ 0 → headerForm m (drop 1 f) ≡ false
   unfolding headerForm between
   none h =
       let g : getD (drop 1 f) 0 0 ≡ getD f 1 0 = getD-drop 1 f 0 0 in
       rw (g, h) (simp and-false)
 
-  uneven : 1 ≤ length f → (length f ≡ 2 * getD f 1 0 + 2 → ⊥) → headerForm limits (drop 1 f) ≡ false
+  uneven : 1 ≤ length f → (length f ≡ 2 * getD f 1 0 + 2 → ⊥) → headerForm m (drop 1 f) ≡ false
   unfolding headerForm
   uneven l h =
       let g : getD (drop 1 f) 0 0 ≡ getD f 1 0 = getD-drop 1 f 0 0 in
       rw (g, ne-eqb (length (drop 1 f)) (1 + 2 * getD f 1 0) (λ e. h (omega (arith, length-drop 1 f)))) (simp and-false)
 
-  even : 0 < getD f 1 0 → getD f 1 0 ≤ 8 → length f ≡ 2 * getD f 1 0 + 2 → headerForm limits (drop 1 f) ≡ true
+  even : 0 < getD f 1 0 → getD f 1 0 ≤ m .stations → length f ≡ 2 * getD f 1 0 + 2 → headerForm m (drop 1 f) ≡ true
   unfolding headerForm between
   even p q h =
       let g : getD (drop 1 f) 0 0 ≡ getD f 1 0 = getD-drop 1 f 0 0 in
-      let m : length (drop 1 f) ≡ 1 + 2 * getD f 1 0 = omega (arith, length-drop 1 f) in
-      rw (g, m, le-leb 1 (1 + 2 * getD f 1 0) (omega arith), le-leb 1 (getD f 1 0) p, le-leb (getD f 1 0) 8 q, eq-eqb (1 + 2 * getD f 1 0) (1 + 2 * getD f 1 0) refl)
+      let l : length (drop 1 f) ≡ 1 + 2 * getD f 1 0 = omega (arith, length-drop 1 f) in
+      rw (g, l, le-leb 1 (1 + 2 * getD f 1 0) (omega arith), le-leb 1 (getD f 1 0) p, le-leb (getD f 1 0) (m .stations) q, eq-eqb (1 + 2 * getD f 1 0) (1 + 2 * getD f 1 0) refl)
 
-  refused : headerForm limits (drop 1 f) ≡ false → Headed f 0
+  refused : headerForm m (drop 1 f) ≡ false → Headed m f 0
   refused e = record { few = omega arith; wrong = λ z. e; right = λ z. absurd (omega arith); is = λ z. absurd (omega arith); long = λ z. absurd (omega arith) }
 
-  pub headed-short : length f < 2 → Headed f 0
+  pub headed-short : length f < 2 → Headed m f 0
   headed-short h = refused (short h)
 
-  pub headed-many : {n : ℕ} → n ≡ getD f 1 0 → 8 < n → Headed f 0
+  pub headed-many : {n : ℕ} → n ≡ getD f 1 0 → m .stations < n → Headed m f 0
   headed-many e h = refused (many (omega arith))
 
-  pub headed-uneven : {n : ℕ} → n ≡ getD f 1 0 → 1 ≤ length f → (length f ≡ 2 * n + 2 → ⊥) → Headed f 0
+  pub headed-uneven : {n : ℕ} → n ≡ getD f 1 0 → 1 ≤ length f → (length f ≡ 2 * n + 2 → ⊥) → Headed m f 0
   headed-uneven e l h = refused (uneven l (λ z. h (omega arith)))
 
-  pub headed : {n : ℕ} → n ≡ getD f 1 0 → n ≤ 8 → length f ≡ 2 * n + 2 → Headed f n
+  pub headed : {n : ℕ} → n ≡ getD f 1 0 → n ≤ m .stations → length f ≡ 2 * n + 2 → Headed m f n
   headed e q h = record { few = q; wrong = λ z. none (omega arith); right = λ z. even (omega arith) (omega arith) (omega arith); is = λ z. e; long = λ z. h }
 
 -- SLOTS
 pub open-none : {f t : List ℕ} → Open f 0 t
 open-none = record { at = λ j h. absurd (omega arith) }
 
-pub open-more : {f t : List ℕ} {j : ℕ} (t′ : List ℕ) → j < 8 → length t ≡ 10240 → Open f j t → t′ ≡ putOf t (slot j 0) (opening f j) → Open f (j + 1) t′
+pub open-more : {f t : List ℕ} {j : ℕ} (t′ : List ℕ) → j < limits .stations → length t ≡ storeSize → Open f j t → t′ ≡ putOf t (slot j 0) (opening f j) → Open f (j + 1) t′
 open-more {f} {t} {j} t′ l long o e = record { at = λ i h. rw e (case i h (eqb i j) refl) } where
-  case : (i : ℕ) → i < j + 1 → (b : Bool) → eqb i j ≡ b → take 10 (drop (slot i 0) (putOf t (slot j 0) (opening f j))) ≡ opening f i
-  case i h true q = let z : i ≡ j = eqb-true i j q in rw z (part-same t (opening f j) (slot j 0) (omega arith) 10 refl)
+  case : (i : ℕ) → i < j + 1 → (b : Bool) → eqb i j ≡ b → take slotSize (drop (slot i 0) (putOf t (slot j 0) (opening f j))) ≡ opening f i
+  case i h true q = let z : i ≡ j = eqb-true i j q in rw z (part-same t (opening f j) (slot j 0) (omega arith) slotSize refl)
   case i h false q =
-      part-other t (opening f j) (slot j 0) (omega arith) (slot i 0) 10 (omega arith) (apart i 0 j 0 (omega arith) (omega arith) (λ z. eqb-false i j q (z .0)))
+      part-other t (opening f j) (slot j 0) (omega arith) (slot i 0) slotSize (omega arith) (apart i 0 j 0 (omega arith) (omega arith) (λ z. eqb-false i j q (z .0)))
       ∙ o .at i (omega (arith, eqb-false i j q))
 
 pub open-all : {f t : List ℕ} {j n : ℕ} → j ≤ n → n ≤ j → Open f j t → Open f n t
@@ -88,22 +91,22 @@ open-all {f} {t} {j} {n} a b o = record { at = λ i h. o .at i (omega arith) }
 
 -- FAULTS
 
-module _ {r : Reading} {s : State} {f t : List ℕ} (g : Frame 0x10 r s f t) where
-  tried : admit limits r f ≡ admitHeader limits r (drop 1 f)
-  tried = kind-header r f (g .some-bytes) (g .kind)
+module _ (m : Limits) {r : Reading} {s : State} {f t : List ℕ} (g : Frame 0x10 r s f t) where
+  tried : admit m r f ≡ admitHeader m r (drop 1 f)
+  tried = kind-header m r f (g .some-bytes) (g .kind)
 
-  pub second : (s .stations ≡ 0 → ⊥) → admit limits r f ≡ fault 4
+  pub second : (s .stations ≡ 0 → ⊥) → admit m r f ≡ fault 4
   unfolding admitHeader check
   second e = tried ∙ rw (begun-yes (g .holds) e)
 
-  pub misshapen : s .stations ≡ 0 → headerForm limits (drop 1 f) ≡ false → admit limits r f ≡ fault 5
+  pub misshapen : s .stations ≡ 0 → headerForm m (drop 1 f) ≡ false → admit m r f ≡ fault 5
   unfolding admitHeader check
   misshapen e w = tried ∙ rw (begun-not (g .holds) e, w)
 
-  shaped : s .stations ≡ 0 → headerForm limits (drop 1 f) ≡ true
-      → admit limits r f ≡ go (record { computation = opened (words (drop 2 f)); questions = r .questions; frames = r .frames ++ (f ∷ []) })
+  shaped : s .stations ≡ 0 → headerForm m (drop 1 f) ≡ true
+      → admit m r f ≡ go (withHeader r (drop 1 f))
   unfolding admitHeader check
-  shaped e w = tried ∙ rw (begun-not (g .holds) e, w, drop-drop 1 1 f, kind-front f 0x10 (g .some-bytes) (g .kind))
+  shaped e w = tried ∙ rw (begun-not (g .holds) e, w)
 
 -- THE TABLE OF THE FIRST VALUES
 
@@ -125,26 +128,26 @@ word-at (suc j) (x ∷ y ∷ l) h =
     let d : 2 * suc j + 1 ≡ suc (suc (2 * j + 1)) = omega arith in
     rw (d, e) (word-at j l (omega arith))
 
-zeros : (n : ℕ) → n ≤ 8 → take n (empty 8) ≡ empty n
+zeros : (n : ℕ) → n ≤ limits .stations → take n (empty (limits .stations)) ≡ empty n
 zeros n h =
-    let k : length (take n (empty 8)) ≡ n = length-take-le n (empty 8) h in
+    let k : length (take n (empty (limits .stations))) ≡ n = length-take-le n (empty (limits .stations)) h in
     ext-getD 0 _ _ (k ∙ sym (length-replicate {A = ℕ} n 0)) (λ i l.
-    getD-take n (empty 8) i 0 (omega arith) ∙ getD-replicate {A = ℕ} 8 i 0 0 (omega arith) ∙ sym (getD-replicate {A = ℕ} n i 0 0 (omega arith)))
+    getD-take n (empty (limits .stations)) i 0 (omega arith) ∙ getD-replicate {A = ℕ} (limits .stations) i 0 0 (omega arith) ∙ sym (getD-replicate {A = ℕ} n i 0 0 (omega arith)))
 
-pub zero-at : (j : ℕ) → empty 8 ! j ≡ 0
-zero-at j = case (ltb j 8) refl where
-  case : (b : Bool) → ltb j 8 ≡ b → empty 8 ! j ≡ 0
-  case true q = getD-replicate {A = ℕ} 8 j 0 0 (ltb-true j 8 q)
-  case false q = List·getD-eq-default (empty 8) 0 (ltb-false j 8 q)
+pub zero-at : (j : ℕ) → empty (limits .stations) ! j ≡ 0
+zero-at j = case (ltb j (limits .stations)) refl where
+  case : (b : Bool) → ltb j (limits .stations) ≡ b → empty (limits .stations) ! j ≡ 0
+  case true q = getD-replicate {A = ℕ} (limits .stations) j 0 0 (ltb-true j (limits .stations) q)
+  case false q = List·getD-eq-default (empty (limits .stations)) 0 (ltb-false j (limits .stations) q)
 
-module _ {f t : List ℕ} {n : ℕ} (few : n ≤ 8) (long : length f ≡ 2 * n + 2) (o : Open f n t) where
+module _ {f t : List ℕ} {n : ℕ} (few : n ≤ limits .stations) (long : length f ≡ 2 * n + 2) (o : Open f n t) where
   sized : length (words (drop 2 f)) ≡ n
   sized = length-words n (drop 2 f) (omega (arith, length-drop 2 f))
 
   first-value : (j : ℕ) → j < n → word (drop (slot j 0) t) ≡ getD (words (drop 2 f)) j 0
   unfolding word
   first-value j l =
-      value-at 8 (slot j 0) t (opening f j) (o .at j l)
+      value-at (limits .stations) (slot j 0) t (opening f j) (o .at j l)
       ∙ sym (word-at j (drop 2 f) (omega (arith, length-drop 2 f)) ∙ rw (getD-drop 2 f (2 * j) 0, getD-drop 2 f (2 * j + 1) 0, e1, e2)) where
         e1 : 2 + 2 * j ≡ 2 * j + 2
         e1 = omega arith
@@ -153,9 +156,9 @@ module _ {f t : List ℕ} {n : ℕ} (few : n ≤ 8) (long : length f ≡ 2 * n +
         e2 = omega arith
 
   first-clock : (j : ℕ) → j < n → take n (drop (slot j 0 + 2) t) ≡ empty n
-  first-clock j l = clock-at 8 (slot j 0) t (opening f j) (o .at j l) n few ∙ zeros n few
+  first-clock j l = clock-at (limits .stations) (slot j 0) t (opening f j) (o .at j l) n few ∙ zeros n few
 
-  stored-first : Stored (opened (words (drop 2 f))) n (empty 8) t
+  stored-first : Stored (opened (words (drop 2 f))) n (empty (limits .stations)) t
   unfolding opened value clock
   stored-first = record {
     size = sized;
@@ -175,26 +178,22 @@ module _ {f t : List ℕ} {n : ℕ} (few : n ≤ 8) (long : length f ≡ 2 * n +
 
 -- THE STEP
 
--- the state after the header of n stations
-abbrev pub opened-state : State → ℕ → State
-opened-state s n = record { stations = n; events = 0; questions = s .questions; counts = empty 8 }
-
-module _ {s : State} {f t t′ : List ℕ} {n : ℕ} (b : Bounded s) (d : Headed f n) (some : 0 < n) (o : Open f n t′) where
-  goes : {r : Reading} → Frame 0x10 r s f t → s .stations ≡ 0 → Goes r f (opened-state s n) t′
+module _ {m : Limits} (up : NoLarger m limits) {s : State} {f t t′ : List ℕ} {n : ℕ} (b : Bounded m s) (d : Headed m f n) (some : 0 < n) (o : Open f n t′) where
+  goes : {r : Reading} → Frame 0x10 r s f t → s .stations ≡ 0 → Goes m r f (afterHeader s n) t′
   unfolding opened
   goes {r} g e = record {
-    after = record { computation = opened (words (drop 2 f)); questions = r .questions; frames = r .frames ++ (f ∷ []) };
-    step = shaped g e (d .right some);
-    frames = refl;
-    holds = record {
-      stored = stored-first (d .few) (d .long some) o;
+    after = withHeader r (drop 1 f);
+    step = shaped m g e (d .right some);
+    frames = ap (λ (x : List ℕ). r .frames ++ (x ∷ [])) (kind-front f 0x10 (g .some-bytes) (g .kind));
+    holds = rw (drop-drop 1 1 f) (record {
+      stored = stored-first (le-trans (d .few) (up .stations)) (d .long some) o;
       sizes = length-opened (words (drop 2 f));
       events = sym (eventCount-opened (words (drop 2 f)));
       questions = g .holds .questions;
-    };
+    });
   }
 
-  pub header-next : 1 ≤ length f → getD f 0 0 ≡ 0x10 → s .stations ≡ 0 → Admits s f t (record { step = Next; state = opened-state s n }) t′
+  pub header-next : 1 ≤ length f → getD f 0 0 ≡ 0x10 → s .stations ≡ 0 → Admits m s f t (record { step = Next; state = afterHeader s n }) t′
   header-next l k e = record {
     bounded = record { few-stations = d .few; few-events = omega arith; few-questions = b .few-questions; eight = refl; each = λ j. rw (zero-at j) (omega arith) };
     stepped = λ r h. goes (record { holds = h; some-bytes = l; kind = k }) e;

@@ -3,29 +3,25 @@ use mathlib.Core.Path.{_≡_, refl, sym, ap, _∙_}
 use mathlib.Core.Bool.{Bool, true, false, and-false}
 use mathlib.Core.List.{List, [], _∷_, _++_}
 use mathlib.Core.Option.{Option, none, some}
-use Prim.Native.Nat.{ℕ, _+_, _<_, _≤_}
+use Prim.Native.Nat.{ℕ, _<_, _≤_}
 use native.Mathlib.Omega.{arith}
 use lib.ListN.{length, getD, drop, length-append}
-use Rattle.model.specs.Limits.{limits}
+use Rattle.model.specs.declared.Limits.{Limits}
 use Rattle.model.specs.Formula.{Formula, formulaOf, sound}
 use Rattle.model.specs.Size.{fits}
 use Rattle.model.specs.Computation.{stations}
-use Rattle.model.specs.Reading.{Reading, check, asked, admit, admitQuestion, go, fault}
+use Rattle.model.specs.Reading.{Reading, withQuestion, check, asked, admit, admitQuestion, go, fault}
 use Rattle.query.specs.Judged.{judged}
 use Rattle.frame.specs.declared.State.{State}
 use Rattle.frame.specs.declared.Step.the-variants.{Next}
-use Rattle.frame.specs.State.{Bounded, Goes, Admits}
+use Rattle.frame.specs.State.{afterQuestion, Bounded, Goes, Admits}
 use Rattle.frame.proofs.Steps.{Frame, kind-question, kind-front, begun-not, begun-yes, questions-full, questions-room}
 
 -- WHAT IS ASKED
 
--- what has been read with the question φ of the frame f
-abbrev with : Reading → List ℕ → Formula → Reading
-with r f φ = record { computation = r .computation; questions = r .questions ++ (φ ∷ []); frames = r .frames ++ (f ∷ []) }
-
 record Asks (r : Reading) (q : List ℕ) (o : Option Formula) : Type 0 where
   pub formula : Formula
-  pub step : asked r q o ≡ go (with r (0x30 ∷ q) formula)
+  pub step : asked r q o ≡ go (withQuestion r q formula)
 
 module _ (r : Reading) (q : List ℕ) where
   asked-wrong : (o : Option Formula) (k : ℕ) → judged (stations (r .computation)) o ≡ some k → asked r q o ≡ fault k
@@ -41,43 +37,43 @@ module _ (r : Reading) (q : List ℕ) where
   unfolding asked judged check
   asked-right none e = let w : _≡_ {A = ℕ} 0 1 = cc in absurd (omega arith)
   asked-right (some φ) e = record { formula = φ; step = case (sound (stations (r .computation)) φ) refl (fits φ) refl } where
-    case : (a : Bool) → sound (stations (r .computation)) φ ≡ a → (b : Bool) → fits φ ≡ b → asked r q (some φ) ≡ go (with r (0x30 ∷ q) φ)
+    case : (a : Bool) → sound (stations (r .computation)) φ ≡ a → (b : Bool) → fits φ ≡ b → asked r q (some φ) ≡ go (withQuestion r q φ)
     case true x true y = rw (x, y)
     case true x false y = let z : _≡_ {A = Option ℕ} (some 9) none = sym (rw (x, y)) ∙ e in let w : _≡_ {A = ℕ} 0 1 = cc in absurd (omega arith)
     case false x b y = let z : _≡_ {A = Option ℕ} (some 8) none = sym (rw x) ∙ e in let w : _≡_ {A = ℕ} 0 1 = cc in absurd (omega arith)
 
 -- FAULTS
 
-module _ {r : Reading} {s : State} {f t : List ℕ} (g : Frame 0x30 r s f t) where
-  tried : admit limits r f ≡ admitQuestion limits r (drop 1 f)
-  tried = kind-question r f (g .some-bytes) (g .kind)
+module _ (m : Limits) {r : Reading} {s : State} {f t : List ℕ} (g : Frame 0x30 r s f t) where
+  tried : admit m r f ≡ admitQuestion m r (drop 1 f)
+  tried = kind-question m r f (g .some-bytes) (g .kind)
 
-  pub before-header : s .stations ≡ 0 → admit limits r f ≡ fault 4
+  pub before-header : s .stations ≡ 0 → admit m r f ≡ fault 4
   unfolding admitQuestion check
   before-header e = tried ∙ rw (begun-not (g .holds) e)
 
-  pub too-many : 16 ≤ s .questions → admit limits r f ≡ fault 4
+  pub too-many : m .questions ≤ s .questions → admit m r f ≡ fault 4
   unfolding admitQuestion check
-  too-many e = tried ∙ rw (questions-full (g .holds) e) (simp and-false)
+  too-many e = tried ∙ rw (questions-full (g .holds) m e) (simp and-false)
 
-  placed : 0 < s .stations → s .questions < 16 → admit limits r f ≡ asked r (drop 1 f) (formulaOf (drop 1 f))
+  placed : 0 < s .stations → s .questions < m .questions → admit m r f ≡ asked r (drop 1 f) (formulaOf (drop 1 f))
   unfolding admitQuestion check
-  placed a b = tried ∙ rw (begun-yes (g .holds) (λ e. omega arith), questions-room (g .holds) b)
+  placed a b = tried ∙ rw (begun-yes (g .holds) (λ e. omega arith), questions-room (g .holds) m b)
 
   verdict : (v : Option ℕ) → v ≡ judged (s .stations) (formulaOf (drop 1 f)) → judged (stations (r .computation)) (formulaOf (drop 1 f)) ≡ v
   verdict v e = rw (g .holds .stored .size) (sym e)
 
-  pub wrong : 0 < s .stations → s .questions < 16 → (k : ℕ) → some k ≡ judged (s .stations) (formulaOf (drop 1 f)) → admit limits r f ≡ fault k
+  pub wrong : 0 < s .stations → s .questions < m .questions → (k : ℕ) → some k ≡ judged (s .stations) (formulaOf (drop 1 f)) → admit m r f ≡ fault k
   wrong a b k e = placed a b ∙ asked-wrong r (drop 1 f) (formulaOf (drop 1 f)) k (verdict (some k) e)
 
-  goes : 0 < s .stations → s .questions < 16 → none ≡ judged (s .stations) (formulaOf (drop 1 f))
-      → Goes r f (record { stations = s .stations; events = s .events; questions = s .questions + 1; counts = s .counts }) t
+  goes : 0 < s .stations → s .questions < m .questions → none ≡ judged (s .stations) (formulaOf (drop 1 f))
+      → Goes m r f (afterQuestion s) t
   goes a b e =
       let k : Asks r (drop 1 f) (formulaOf (drop 1 f)) = asked-right r (drop 1 f) (formulaOf (drop 1 f)) (verdict none e) in
       record {
-        after = with r f (k .formula);
-        step = placed a b ∙ k .step ∙ ap (λ (x : List ℕ). go (with r x (k .formula))) (kind-front f 0x30 (g .some-bytes) (g .kind));
-        frames = refl;
+        after = withQuestion r (drop 1 f) (k .formula);
+        step = placed a b ∙ k .step;
+        frames = ap (λ (x : List ℕ). r .frames ++ (x ∷ [])) (kind-front f 0x30 (g .some-bytes) (g .kind));
         holds = record {
           stored = g .holds .stored;
           sizes = g .holds .sizes;
@@ -86,10 +82,10 @@ module _ {r : Reading} {s : State} {f t : List ℕ} (g : Frame 0x30 r s f t) whe
         };
       }
 
-pub question-next : {s : State} {f : List ℕ} (t : List ℕ) → Bounded s → 1 ≤ length f → getD f 0 0 ≡ 0x30 → 0 < s .stations → s .questions < 16 → none ≡ judged (s .stations) (formulaOf (drop 1 f))
-    → Admits s f t (record { step = Next; state = record { stations = s .stations; events = s .events; questions = s .questions + 1; counts = s .counts } }) t
-question-next t b l k n m e = record {
+pub question-next : {m : Limits} {s : State} {f : List ℕ} (t : List ℕ) → Bounded m s → 1 ≤ length f → getD f 0 0 ≡ 0x30 → 0 < s .stations → s .questions < m .questions → none ≡ judged (s .stations) (formulaOf (drop 1 f))
+    → Admits m s f t (record { step = Next; state = afterQuestion s }) t
+question-next {m} t b l k n o e = record {
   bounded = record { few-stations = b .few-stations; few-events = b .few-events; few-questions = omega arith; eight = b .eight; each = b .each };
-  stepped = λ r h. goes (record { holds = h; some-bytes = l; kind = k }) n m e;
+  stepped = λ r h. goes m (record { holds = h; some-bytes = l; kind = k }) n o e;
   unmoved = tt;
 }

@@ -1,29 +1,30 @@
--- Slots of the event table: they lie apart, and value and clock follow from the ten bytes. Assumes nothing.
+-- Slots of the event table: they lie apart, and value and clock follow from their bytes. Assumes nothing.
 use mathlib.Core.Path.{_≡_, refl, sym, ap, _∙_}
 use mathlib.Core.Logic.{_⊎_, inl, inr}
 use mathlib.Core.List.{List, [], _∷_}
-use Prim.Native.Nat.{ℕ, suc, _+_, _*_, _≤_}
+use Prim.Native.Nat.{ℕ, suc, _+_, _≤_}
 use native.Mathlib.Omega.{arith}
 use lib.Dec.{ltb}
 use mathlib.Core.Bool.{Bool, true, false}
 use borrow.Author.Tests.{ltb-true, ltb-false}
 use lib.ListN.{take, drop}
 use lib.Seq.{getD-take, drop-drop, take-take}
+use Rattle.model.specs.Limits.{limits, slotSize}
 use Rattle.model.specs.Frames.{word}
-use Rattle.frame.specs.Table.{slot}
+use Rattle.frame.specs.Table.{slotsBefore, slot}
 
 -- two slots are one, or lie apart
-pub apart : (j k i l : ℕ) → k ≤ 127 → l ≤ 127 → ((j ≡ i) × (k ≡ l) → ⊥) → (slot j k + 10 ≤ slot i l) ⊎ (slot i l + 10 ≤ slot j k)
-apart j k i l a b n = first (ltb (j * 128 + k) (i * 128 + l)) refl where
-  second : (x : Bool) → ltb (i * 128 + l) (j * 128 + k) ≡ x → i * 128 + l ≤ j * 128 + k → (slot j k + 10 ≤ slot i l) ⊎ (slot i l + 10 ≤ slot j k)
-  second true q h = inr (omega (arith, ltb-true (i * 128 + l) (j * 128 + k) q))
+pub apart : (j k i l : ℕ) → k ≤ limits .events → l ≤ limits .events → ((j ≡ i) × (k ≡ l) → ⊥) → (slot j k + slotSize ≤ slot i l) ⊎ (slot i l + slotSize ≤ slot j k)
+apart j k i l a b n = first (ltb (slotsBefore j k) (slotsBefore i l)) refl where
+  second : (x : Bool) → ltb (slotsBefore i l) (slotsBefore j k) ≡ x → slotsBefore i l ≤ slotsBefore j k → (slot j k + slotSize ≤ slot i l) ⊎ (slot i l + slotSize ≤ slot j k)
+  second true q h = inr (omega (arith, ltb-true (slotsBefore i l) (slotsBefore j k) q))
   second false q h =
-      let e : j * 128 + k ≡ i * 128 + l = omega (arith, ltb-false (i * 128 + l) (j * 128 + k) q) in
+      let e : slotsBefore j k ≡ slotsBefore i l = omega (arith, ltb-false (slotsBefore i l) (slotsBefore j k) q) in
       absurd (n (omega arith, omega arith))
 
-  first : (x : Bool) → ltb (j * 128 + k) (i * 128 + l) ≡ x → (slot j k + 10 ≤ slot i l) ⊎ (slot i l + 10 ≤ slot j k)
-  first true q = inl (omega (arith, ltb-true (j * 128 + k) (i * 128 + l) q))
-  first false q = second (ltb (i * 128 + l) (j * 128 + k)) refl (ltb-false (j * 128 + k) (i * 128 + l) q)
+  first : (x : Bool) → ltb (slotsBefore j k) (slotsBefore i l) ≡ x → (slot j k + slotSize ≤ slot i l) ⊎ (slot i l + slotSize ≤ slot j k)
+  first true q = inl (omega (arith, ltb-true (slotsBefore j k) (slotsBefore i l) q))
+  first false q = second (ltb (slotsBefore i l) (slotsBefore j k)) refl (ltb-false (slotsBefore j k) (slotsBefore i l) q)
 
 -- value and clock of the bytes at the front
 pub word-take : (m : ℕ) (l : List ℕ) → word (take (m + 2) l) ≡ word l

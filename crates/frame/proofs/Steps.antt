@@ -4,36 +4,38 @@ use mathlib.Core.Bool.{true, false}
 use mathlib.Core.List.{List, [], _∷_}
 use Prim.Native.Nat.{ℕ, _<_, _≤_}
 use native.Mathlib.Omega.{arith}
+use native.Mathlib.Nat.{le-trans}
 use lib.Dec.{ltb}
 use borrow.Author.Tests.{eq-eqb, ne-eqb, lt-ltb, le-ltb}
 use lib.ListN.{length, getD, drop}
-use Rattle.model.specs.Limits.{limits}
+use Rattle.model.specs.declared.Limits.{Limits}
 use Rattle.model.specs.Computation.{stations, eventCount}
 use Rattle.model.specs.Reading.{Reading, begun, unasked, admit, admitHeader, admitEvent, admitQuestion, fault}
 use Rattle.model.specs.Reply.{number}
 use Rattle.model.specs.declared.Fault.{Fault}
+use Rattle.codec.specs.Limits.{NoLarger}
 use Rattle.frame.specs.declared.State.{State}
 use Rattle.frame.specs.declared.Admitted.{Admitted}
-use Rattle.frame.specs.State.{faultyAt, Bounded, Holds, Admits}
+use Rattle.frame.specs.State.{faultyAt, Bounded, Represents, Admits}
 
 -- THE KIND
-module _ (r : Reading) where
-  pub kind-header : (f : List ℕ) → 1 ≤ length f → getD f 0 0 ≡ 0x10 → admit limits r f ≡ admitHeader limits r (drop 1 f)
+module _ (m : Limits) (r : Reading) where
+  pub kind-header : (f : List ℕ) → 1 ≤ length f → getD f 0 0 ≡ 0x10 → admit m r f ≡ admitHeader m r (drop 1 f)
   unfolding admit
   kind-header [] l e = absurd (omega arith)
   kind-header (k ∷ f) l e = rw (eq-eqb k 0x10 e)
 
-  pub kind-event : (f : List ℕ) → 1 ≤ length f → getD f 0 0 ≡ 0x20 → admit limits r f ≡ admitEvent limits r (drop 1 f)
+  pub kind-event : (f : List ℕ) → 1 ≤ length f → getD f 0 0 ≡ 0x20 → admit m r f ≡ admitEvent m r (drop 1 f)
   unfolding admit
   kind-event [] l e = absurd (omega arith)
   kind-event (k ∷ f) l e = rw (ne-eqb k 0x10 (omega arith), eq-eqb k 0x20 e)
 
-  pub kind-question : (f : List ℕ) → 1 ≤ length f → getD f 0 0 ≡ 0x30 → admit limits r f ≡ admitQuestion limits r (drop 1 f)
+  pub kind-question : (f : List ℕ) → 1 ≤ length f → getD f 0 0 ≡ 0x30 → admit m r f ≡ admitQuestion m r (drop 1 f)
   unfolding admit
   kind-question [] l e = absurd (omega arith)
   kind-question (k ∷ f) l e = rw (ne-eqb k 0x10 (omega arith), ne-eqb k 0x20 (omega arith), eq-eqb k 0x30 e)
 
-  pub kind-unknown : (f : List ℕ) → (getD f 0 0 ≡ 0x10 → ⊥) → (getD f 0 0 ≡ 0x20 → ⊥) → (getD f 0 0 ≡ 0x30 → ⊥) → admit limits r f ≡ fault 4
+  pub kind-unknown : (f : List ℕ) → (getD f 0 0 ≡ 0x10 → ⊥) → (getD f 0 0 ≡ 0x20 → ⊥) → (getD f 0 0 ≡ 0x30 → ⊥) → admit m r f ≡ fault 4
   unfolding admit
   kind-unknown [] a b c = refl
   kind-unknown (k ∷ f) a b c = rw (ne-eqb k 0x10 a, ne-eqb k 0x20 b, ne-eqb k 0x30 c)
@@ -44,17 +46,17 @@ kind-front [] k l e = absurd (omega arith)
 kind-front (x ∷ f) k l e = ap (λ (y : ℕ). y ∷ f) (sym e)
 
 -- A FAULT
-pub turned : {s : State} {f t : List ℕ} (x : Fault) (a : Admitted) → a ≡ faultyAt s x → Bounded s → ((r : Reading) → Holds r s t → admit limits r f ≡ fault (number x)) → Admits s f t a t
+pub turned : {m : Limits} {s : State} {f t : List ℕ} (x : Fault) (a : Admitted) → a ≡ faultyAt s x → Bounded m s → ((r : Reading) → Represents r s t → admit m r f ≡ fault (number x)) → Admits m s f t a t
 turned x a e b h = rw e (record { bounded = b; stepped = h; unmoved = (refl, refl) })
 
 -- a frame of the kind k, after what has been read
 pub record Frame (k : ℕ) (r : Reading) (s : State) (f t : List ℕ) : Type 0 where
-  pub holds : Holds r s t
+  pub holds : Represents r s t
   pub some-bytes : 1 ≤ length f
   pub kind : getD f 0 0 ≡ k
 
 -- THE PLACE
-module _ {r : Reading} {s : State} {t : List ℕ} (h : Holds r s t) where
+module _ {r : Reading} {s : State} {t : List ℕ} (h : Represents r s t) where
   pub begun-not : s .stations ≡ 0 → begun r ≡ false
   unfolding begun
   begun-not e = le-ltb 0 (stations (r .computation)) (omega (arith, h .stored .size))
@@ -71,14 +73,25 @@ module _ {r : Reading} {s : State} {t : List ℕ} (h : Holds r s t) where
   unfolding unasked
   unasked-yes e = eq-eqb (length (r .questions)) 0 (sym (h .questions) ∙ e)
 
-  pub events-full : 127 ≤ s .events → ltb (eventCount (r .computation)) (limits .events) ≡ false
-  events-full e = le-ltb (eventCount (r .computation)) 127 (omega (arith, h .events))
+  module _ (m : Limits) where
+    pub events-full : m .events ≤ s .events → ltb (eventCount (r .computation)) (m .events) ≡ false
+    events-full e = le-ltb (eventCount (r .computation)) (m .events) (omega (arith, h .events))
 
-  pub events-room : s .events < 127 → ltb (eventCount (r .computation)) (limits .events) ≡ true
-  events-room e = lt-ltb (eventCount (r .computation)) 127 (omega (arith, h .events))
+    pub events-room : s .events < m .events → ltb (eventCount (r .computation)) (m .events) ≡ true
+    events-room e = lt-ltb (eventCount (r .computation)) (m .events) (omega (arith, h .events))
 
-  pub questions-full : 16 ≤ s .questions → ltb (length (r .questions)) (limits .questions) ≡ false
-  questions-full e = le-ltb (length (r .questions)) 16 (omega (arith, h .questions))
+    pub questions-full : m .questions ≤ s .questions → ltb (length (r .questions)) (m .questions) ≡ false
+    questions-full e = le-ltb (length (r .questions)) (m .questions) (omega (arith, h .questions))
 
-  pub questions-room : s .questions < 16 → ltb (length (r .questions)) (limits .questions) ≡ true
-  questions-room e = lt-ltb (length (r .questions)) 16 (omega (arith, h .questions))
+    pub questions-room : s .questions < m .questions → ltb (length (r .questions)) (m .questions) ≡ true
+    questions-room e = lt-ltb (length (r .questions)) (m .questions) (omega (arith, h .questions))
+
+-- what keeps some limits keeps larger ones
+pub bounded-up : {m m′ : Limits} {s : State} → NoLarger m m′ → Bounded m s → Bounded m′ s
+bounded-up up b = record {
+  few-stations = le-trans (b .few-stations) (up .stations);
+  few-events = le-trans (b .few-events) (up .events);
+  few-questions = le-trans (b .few-questions) (up .questions);
+  eight = b .eight;
+  each = b .each;
+}

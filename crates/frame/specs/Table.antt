@@ -1,21 +1,26 @@
--- The event table: a slot of ten bytes for each event of each station, its value in two bytes, high byte first, and then its clock.
+-- The store: what is read of a log. Its first section, and today the only one, is the event table: a slot for each event of each station, its value in two bytes, high byte first, and then its clock.
 use mathlib.Core.Path.{_≡_}
 use Prim.Native.Nat.{ℕ, _+_, _*_, _≤_, _<_}
 use mathlib.Core.List.{List}
 use lib.ListN.{getD, take, drop}
+use Rattle.model.specs.Limits.{limits, slotSize}
 use Rattle.model.specs.Frames.{word}
 use Rattle.model.specs.Computation.{Computation, stations, count, clock, value}
 
--- Where event k of station j stands; at k = 0 stand the first value and the empty clock.
-abbrev pub slot : ℕ → ℕ → ℕ
-slot j k = (j * 128 + k) * 10
+-- The slots before that of event k of station j; at k = 0 stand the first value and the empty clock.
+abbrev pub slotsBefore : ℕ → ℕ → ℕ
+slotsBefore j k = j * (limits .events + 1) + k
 
--- The table holds the events of K.
+-- Where event k of station j stands in the store.
+abbrev pub slot : ℕ → ℕ → ℕ
+slot j k = slotsBefore j k * slotSize
+
+-- The event table of the store t holds the events of K.
 pub record Table (K : Computation) (t : List ℕ) : Type 0 where
   pub values : (j k : ℕ) → j < stations K → k ≤ count K j → word (drop (slot j k) t) ≡ value K j k
   pub clocks : (j k : ℕ) → j < stations K → k ≤ count K j → take (stations K) (drop (slot j k + 2) t) ≡ clock K j k
 
--- K has n stations, counts has the number of events of each, and the table holds them.
+-- K has n stations, counts has the number of events of each, and the event table of the store t holds them.
 pub record Stored (K : Computation) (n : ℕ) (counts t : List ℕ) : Type 0 where
   pub size : stations K ≡ n
   pub each : (j : ℕ) → getD counts j 0 ≡ count K j

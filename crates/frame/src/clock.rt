@@ -4,6 +4,7 @@ use crate::table::slot;
 ghost use mathlib.Core.Path.{_≡_};
 ghost use Prim.Native.Nat.{ℕ, _+_, _≤_, _<_};
 ghost use lib.ListN.{length, take, drop, getD};
+ghost use Rattle.model.specs.Limits.{limits, storeSize};
 ghost use Rattle.model.specs.Cut.{inside};
 ghost use Rattle.model.specs.Computation.{Computation, known, counted, clockOk};
 ghost use Rattle.frame.specs.Table.{Stored};
@@ -24,13 +25,13 @@ fn last_counted(s: usize, j: usize, v: &[u8]) -> usize
 }
 
 // Are the bytes from `at` on nowhere above those of v?
-fn nowhere_above(table: &[u8], at: usize, v: &[u8]) -> bool
-    requires { ⌜ at + length (now v) ≤ length (now table) ⌝ }
-    ensures { λ r. ⌜ r ≡ inside (take (length (now (v .entry))) (drop at (now (table .entry)))) (now (v .entry)) ⌝ }
+fn nowhere_above(store: &[u8], at: usize, v: &[u8]) -> bool
+    requires { ⌜ at + length (now v) ≤ length (now store) ⌝ }
+    ensures { λ r. ⌜ r ≡ inside (take (length (now (v .entry))) (drop at (now (store .entry)))) (now (v .entry)) ⌝ }
 {
     let mut i = 0;
     while i < v.len() {
-        if v[i] < table[at + i] {
+        if v[i] < store[at + i] {
             return false;
         }
         i += 1;
@@ -38,25 +39,25 @@ fn nowhere_above(table: &[u8], at: usize, v: &[u8]) -> bool
     true
 }
 
-// Is event k of station j in the table, or k 0, and its clock nowhere above v?
-pub fn known(v: &[u8], j: usize, k: usize, counts: &[u8; 8], table: &[u8]) -> bool
-    requires { ⌜ (j < length (now v)) × (length (now v) ≤ 8) × (length (now table) ≡ 10240) ⌝ }
-    requires { ⌜ ((i : ℕ) → getD (now counts) i 0 ≤ 127) ⌝ }
-    ensures { λ r. ⌜ ((K : Computation) → Stored K (length (now (v .entry))) (now (counts .entry)) (now (table .entry)) → r ≡ known K (now (v .entry)) j k) ⌝ }
+// Is event k of station j in the store, or k 0, and its clock nowhere above v?
+pub fn known(v: &[u8], j: usize, k: usize, counts: &[u8; 8], store: &[u8]) -> bool
+    requires { ⌜ (j < length (now v)) × (length (now v) ≤ limits .stations) × (length (now store) ≡ storeSize) ⌝ }
+    requires { ⌜ ((i : ℕ) → getD (now counts) i 0 ≤ limits .events) ⌝ }
+    ensures { λ r. ⌜ ((K : Computation) → Stored K (length (now (v .entry))) (now (counts .entry)) (now (store .entry)) → r ≡ known K (now (v .entry)) j k) ⌝ }
 {
     let m = wide(counts[j]);
     if m < k {
         return false;
     }
     let at = slot(j, k);
-    nowhere_above(table, at + 2, v)
+    nowhere_above(store, at + 2, v)
 }
 
 // Does the clock v fit the next event of station s?
-pub(crate) fn clock_ok(s: usize, v: &[u8], counts: &[u8; 8], table: &[u8]) -> bool
-    requires { ⌜ (s < length (now v)) × (length (now v) ≤ 8) × (length (now table) ≡ 10240) ⌝ }
-    requires { ⌜ ((i : ℕ) → getD (now counts) i 0 ≤ 127) ⌝ }
-    ensures { λ r. ⌜ ((K : Computation) → Stored K (length (now (v .entry))) (now (counts .entry)) (now (table .entry)) → r ≡ clockOk K s (now (v .entry))) ⌝ }
+pub(crate) fn clock_ok(s: usize, v: &[u8], counts: &[u8; 8], store: &[u8]) -> bool
+    requires { ⌜ (s < length (now v)) × (length (now v) ≤ limits .stations) × (length (now store) ≡ storeSize) ⌝ }
+    requires { ⌜ ((i : ℕ) → getD (now counts) i 0 ≤ limits .events) ⌝ }
+    ensures { λ r. ⌜ ((K : Computation) → Stored K (length (now (v .entry))) (now (counts .entry)) (now (store .entry)) → r ≡ clockOk K s (now (v .entry))) ⌝ }
 {
     if wide(v[s]) != wide(counts[s]) + 1 {
         return false;
@@ -64,7 +65,7 @@ pub(crate) fn clock_ok(s: usize, v: &[u8], counts: &[u8; 8], table: &[u8]) -> bo
     let mut j = 0;
     while j < v.len() {
         let k = last_counted(s, j, v);
-        if !known(v, j, k, counts, table) {
+        if !known(v, j, k, counts, store) {
             return false;
         }
         j += 1;

@@ -1,4 +1,4 @@
-// One frame of each kind, tried after what has been read into a state and an event table.
+// One frame of each kind, tried after what has been read into a state and a store.
 pub mod bytes;
 pub mod clock;
 pub mod event;
@@ -7,7 +7,9 @@ pub mod question;
 pub mod table;
 
 ghost use mathlib.Core.Path.{_≡_};
-ghost use Rattle.frame.specs.State.{fresh, faultyAt};
+ghost use Prim.Native.Nat.{_≤_, _<_};
+ghost use Rattle.model.specs.Limits.{limits};
+ghost use Rattle.frame.specs.State.{fresh, afterHeader, afterEvent, afterQuestion, firstQuestion, faultyAt, Bounded};
 
 // What has been read, in numbers: counts has the events of each station.
 pub struct State {
@@ -28,6 +30,56 @@ impl State {
             questions: 0,
             counts: [0u8; model::Log::STATIONS],
         }
+    }
+
+    // A header of n stations has been read.
+    pub(crate) fn with_header(self, n: usize) -> State
+        ensures { λ r. ⌜ r ≡ afterHeader self n ⌝ }
+    {
+        State {
+            stations: n,
+            events: 0,
+            questions: self.questions,
+            counts: [0u8; model::Log::STATIONS],
+        }
+    }
+
+    // One more event of station j has been read.
+    pub(crate) fn with_event(self, j: usize) -> State
+        requires { ⌜ Bounded limits self ⌝ }
+        requires { ⌜ (j < self .stations) × (self .events < limits .events) ⌝ }
+        ensures { λ r. ⌜ r ≡ afterEvent self j ⌝ }
+    {
+        let mut counts = self.counts;
+        counts[j] = counts[j] + 1;
+        State {
+            stations: self.stations,
+            events: self.events + 1,
+            questions: self.questions,
+            counts: counts,
+        }
+    }
+
+    // One more question has been read.
+    pub(crate) fn with_question(self) -> State
+        requires { ⌜ self .questions < limits .questions ⌝ }
+        ensures { λ r. ⌜ r ≡ afterQuestion self ⌝ }
+    {
+        let counts = self.counts;
+        State {
+            stations: self.stations,
+            events: self.events,
+            questions: self.questions + 1,
+            counts: counts,
+        }
+    }
+
+    // Where the first question stands among the frames.
+    pub fn first_question(self) -> usize
+        requires { ⌜ self .events ≤ limits .events ⌝ }
+        ensures { λ r. ⌜ r ≡ firstQuestion self ⌝ }
+    {
+        self.events + 1
     }
 }
 

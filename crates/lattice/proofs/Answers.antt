@@ -1,7 +1,7 @@
 -- All that is promised of the reply to a cut and of the line of a question: demands 2 and 3.
 use mathlib.Core.Path.{_≡_, refl}
 use mathlib.Core.Logic.{_↔_}
-use Prim.Native.Nat.{ℕ, _≤_}
+use Prim.Native.Nat.{ℕ, _<_}
 use native.Mathlib.Omega.{arith}
 use mathlib.Core.Bool.{Bool, true, false}
 use mathlib.Core.List.{[], _∷_}
@@ -21,7 +21,7 @@ use Rattle.lattice.proofs.Theorem.{tested, untested}
 use Rattle.lattice.proofs.Maximal.{maximal, listed-iff, listed-ascending, true-below, never-iff}
 use Rattle.lattice.proofs.Rounds.{all-by-rule, rounds-bound, rounds-fit}
 use Rattle.lattice.proofs.Held.{fits-to, fits-signs}
-use Rattle.lattice.proofs.Line.{listed-few, listed-size, listed-byte}
+use Rattle.lattice.proofs.Line.{listed-few, listed-size, listed-count}
 
 said-yes : (b : Bool) → (_≡_ {A = Reply} (gives (yesNo b ∷ [])) (gives (1 ∷ []))) ↔ (b ≡ true)
 said-yes true = (λ h. refl, λ h. refl)
@@ -39,7 +39,7 @@ told K ok f c p = record {
 }
 
 -- Demand 3.
-pub answered : (K : Computation) → Valid K → eventCount K ≤ 127 → (f : Formula) → fits f ≡ true → Answered K f (answerLine (answer K f))
+pub answered : (K : Computation) → Valid K → eventCount K < 256 → (f : Formula) → fits f ≡ true → Answered K f (answerLine (answer K f))
 unfolding answer
 answered K ok e f h = record {
   start = trueAt K f (empty (stations K));
@@ -48,7 +48,7 @@ answered K ok e f h = record {
   encodes = refl;
   few = omega (arith, listed-few K f slender);
   sized = listed-size K ok f;
-  small = λ c m j. omega (arith, listed-byte K ok f e c m j);
+  small = λ c m j. omega (arith, listed-count K ok f c m j);
   short = rounds-fit K f slender (fits-signs f h) e;
   listed = listed-iff K ok f;
   ordered = listed-ascending K ok f;

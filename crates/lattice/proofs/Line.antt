@@ -1,4 +1,4 @@
--- The numbers of an answer fit their bytes, and its line fits 273: at most 16 cuts of at most 8 counts of at most 127, and the rounds in four bytes.
+-- The numbers of an answer fit their bytes, and its line fits its output: at most 16 cuts with a count for each station, and the rounds in four bytes.
 use mathlib.Core.Path.{_≡_, refl}
 use Prim.Native.Nat.{ℕ, suc, _+_, _*_, _≤_}
 use native.Mathlib.Omega.{arith}
@@ -6,6 +6,7 @@ use native.Mathlib.Nat.{le-trans, mul-le-mul}
 use mathlib.Core.Bool.{Bool, true, false, cond}
 use mathlib.Core.List.{List, [], _∷_, _++_}
 use lib.ListN.{length, length-append, length-map}
+use Rattle.model.specs.Limits.{limits, lineSize}
 use Rattle.model.specs.Lists.{Member}
 use Rattle.model.specs.Lists.Some.{here, there}
 use Rattle.model.specs.Bytes.{hex, checkByte, line}
@@ -81,9 +82,9 @@ module _ (K : Computation) (ok : Valid K) (f : Formula) where
   pub listed-within : (c : Cut) → Member c ((answer K f) .cuts) → (j : ℕ) → c ! j ≤ count K j
   listed-within c m = listed-consistent c m .within
 
-  -- At most 127.
-  pub listed-byte : eventCount K ≤ 127 → (c : Cut) → Member c ((answer K f) .cuts) → (j : ℕ) → c ! j ≤ 127
-  listed-byte e c m j = omega (arith, listed-within c m j, count-le K j)
+  -- Nor all events.
+  pub listed-count : (c : Cut) → Member c ((answer K f) .cuts) → (j : ℕ) → c ! j ≤ eventCount K
+  listed-count c m j = omega (arith, listed-within c m j, count-le K j)
 
 -- ITS LINE
 
@@ -117,8 +118,8 @@ length-answer K ok f =
       length-line (0x40 ∷ yesNo (a .start) ∷ length (a .cuts) ∷ (inRow (a .cuts) ++ fourBytes (a .rounds))),
     )
 
--- At most 273 bytes.
-pub answer-fits : (K : Computation) → Valid K → (f : Formula) → narrow (asTrue f) ≡ true → stations K ≤ 8 → length (answerLine (answer K f)) ≤ 273
+-- It fits the output that Answer asks for.
+pub answer-fits : (K : Computation) → Valid K → (f : Formula) → narrow (asTrue f) ≡ true → stations K ≤ limits .stations → length (answerLine (answer K f)) ≤ lineSize
 answer-fits K ok f h n =
-    let m : length ((answer K f) .cuts) * stations K ≤ 128 = mul-le-mul {n₁ = length ((answer K f) .cuts)} {m₁ = stations K} {n₂ = 16} {m₂ = 8} (listed-few K f h) n in
+    let m : length ((answer K f) .cuts) * stations K ≤ 16 * limits .stations = mul-le-mul {n₁ = length ((answer K f) .cuts)} {m₁ = stations K} {n₂ = 16} {m₂ = limits .stations} (listed-few K f h) n in
     omega (arith, m, length-answer K ok f)

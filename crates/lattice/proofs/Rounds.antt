@@ -81,11 +81,11 @@ rounds-normal K (either p q) h = let n = narrow-either p q h in omega (arith, ro
 rounds-normal K (possible p) h = rounds-normal K p (narrow-possible p h .1)
 rounds-normal K (impossible p) h = rounds-normal K p (narrow-impossible p h .1)
 
--- They fit four bytes.
-pub normal-fit : (K : Computation) (p : Normal) → narrow p ≡ true → signsOf p ≤ 31 → eventCount K ≤ 127 → rounds K p < 2 ^ 32
+-- They fit four bytes, where the events fit one.
+pub normal-fit : (K : Computation) (p : Normal) → narrow p ≡ true → signsOf p ≤ 31 → eventCount K < 256 → rounds K p < 2 ^ 32
 normal-fit K p h s e =
-    let a : square K ≤ 128 * 128 = mul-le-mul {n₁ = suc (eventCount K)} {m₁ = suc (eventCount K)} {n₂ = 128} {m₂ = 128} (omega arith) (omega arith) in
-    let b : 16 * signsOf p * square K ≤ 496 * 16384 = mul-le-mul {n₁ = 16 * signsOf p} {m₁ = square K} {n₂ = 496} {m₂ = 16384} (omega arith) a in
+    let a : square K ≤ 256 * 256 = mul-le-mul {n₁ = suc (eventCount K)} {m₁ = suc (eventCount K)} {n₂ = 256} {m₂ = 256} (omega arith) (omega arith) in
+    let b : 16 * signsOf p * square K ≤ 16 * 31 * (256 * 256) = mul-le-mul {n₁ = 16 * signsOf p} {m₁ = square K} {n₂ = 16 * 31} {m₂ = 256 * 256} (omega arith) a in
     omega (arith, rounds-normal K p h, b)
 
 -- Of a narrow question, by its and- and or-signs.
@@ -93,5 +93,5 @@ pub rounds-bound : (K : Computation) (f : Formula) → narrow (asTrue f) ≡ tru
 rounds-bound K f h = rw (weight-true 0 1 f) at (rounds-normal K (asTrue f) h)
 
 -- They fit four bytes too.
-pub rounds-fit : (K : Computation) (f : Formula) → narrow (asTrue f) ≡ true → signs f ≤ 31 → eventCount K ≤ 127 → rounds K (asTrue f) < 2 ^ 32
+pub rounds-fit : (K : Computation) (f : Formula) → narrow (asTrue f) ≡ true → signs f ≤ 31 → eventCount K < 256 → rounds K (asTrue f) < 2 ^ 32
 rounds-fit K f h s e = normal-fit K (asTrue f) h (rw (weight-true 0 1 f) s) e

@@ -1,4 +1,3 @@
-pub mod Loads
 pub mod Operations
 pub mod Entries
 pub mod Writes

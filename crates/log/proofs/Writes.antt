@@ -8,7 +8,7 @@ use native.Mathlib.Omega.{arith}
 use borrow.Author.Tests.{le-leb, lt-leb}
 use lib.ListN.{length, take, drop, getD, length-append, length-drop}
 use lib.Seq.{length-take-le}
-use Rattle.model.specs.Limits.{limits}
+use Rattle.model.specs.declared.Limits.{Limits}
 use Rattle.model.specs.Bytes.{frame, line}
 use Rattle.model.specs.Frames.{framesOf, logOf}
 use Rattle.model.specs.Reading.{nothing, refused, readItems, readFrames, readList}
@@ -16,39 +16,40 @@ use Rattle.model.specs.Reply.{number}
 use Rattle.model.specs.declared.Fault.{Fault}
 use Rattle.wire.specs.Put.{putOf}
 use Rattle.wire.proofs.Puts.{length-put, put-nil, put-put}
+use Rattle.codec.specs.Limits.{Suitable}
 use Rattle.codec.proofs.Lines.{length-line}
 use Rattle.codec.proofs.Sizes.{sizes}
 use Rattle.frame.specs.declared.Admitted.{Admitted}
 use Rattle.frame.specs.declared.Step.{Step}
 use Rattle.frame.specs.declared.Step.the-variants.{Next, Faulty}
-use Rattle.log.specs.declared.Position.{Position}
+use Rattle.load.specs.declared.Position.{Position}
 use Rattle.frame.specs.State.{Admits}
-use Rattle.log.specs.Loaded.{first, Sofar}
+use Rattle.load.specs.Loading.{first, Sofar}
 use Rattle.log.specs.Entries.{formed, frames, Formed, entries, Partly, Entered, Allowed}
-use Rattle.log.proofs.Loads.{sofar-of, sofar-more, sofar-ends, sofar-first, bounded-fresh, end-empty, end-all}
+use Rattle.load.proofs.Loads.{sofar-of, sofar-more, sofar-ends, sofar-first, bounded-fresh, end-empty, end-all}
 use Rattle.log.proofs.Entries.{Entry, entry-at, taken, entries-end}
 
 -- READING A LIST
 
-pub list-long : (list : List ℕ) → 4096 < length list → readList limits list ≡ refused 14 0
+pub list-long : (m : Limits) (list : List ℕ) → m .list < length list → readList m list ≡ refused 14 0
 unfolding readList
-list-long list h = rw (lt-leb (length list) 4096 h)
+list-long m list h = rw (lt-leb (length list) (m .list) h)
 
-list-read : (list : List ℕ) → length list ≤ 4096 → readList limits list ≡ readFrames limits (framesOf list)
+list-read : (m : Limits) (list : List ℕ) → length list ≤ m .list → readList m list ≡ readFrames m (framesOf list)
 unfolding readList
-list-read list h = rw (le-leb (length list) 4096 h)
+list-read m list h = rw (le-leb (length list) (m .list) h)
 
-pub list-unformed : (list : List ℕ) → length list ≤ 4096 → formed (framesOf list) ≡ false → readList limits list ≡ refused 14 0
+pub list-unformed : (m : Limits) (list : List ℕ) → length list ≤ m .list → formed (framesOf list) ≡ false → readList m list ≡ refused 14 0
 unfolding readFrames
-list-unformed list h e = list-read list h ∙ case (framesOf list) e where
-  case : (o : Option (List (List ℕ))) → formed o ≡ false → readFrames limits o ≡ refused 14 0
+list-unformed m list h e = list-read m list h ∙ case (framesOf list) e where
+  case : (o : Option (List (List ℕ))) → formed o ≡ false → readFrames m o ≡ refused 14 0
   case none e = refl
   case (some fs) e = let z : _≡_ {A = ℕ} 0 1 = cc in absurd (omega arith)
 
-pub list-formed : (list : List ℕ) → length list ≤ 4096 → Formed list → readList limits list ≡ readItems limits 1 nothing (map frame (entries list))
+pub list-formed : (m : Limits) (list : List ℕ) → length list ≤ m .list → Formed list → readList m list ≡ readItems m 1 nothing (map frame (entries list))
 unfolding readFrames
-list-formed list h e = list-read list h ∙ case (framesOf list) e where
-  case : (o : Option (List (List ℕ))) → formed o ≡ true → readFrames limits o ≡ readItems limits 1 nothing (map frame (frames o))
+list-formed m list h e = list-read m list h ∙ case (framesOf list) e where
+  case : (o : Option (List (List ℕ))) → formed o ≡ true → readFrames m o ≡ readItems m 1 nothing (map frame (frames o))
   case none e = let z : _≡_ {A = ℕ} 0 1 = cc in absurd (omega arith)
   case (some fs) e = refl
 
@@ -56,21 +57,21 @@ list-formed list h e = list-read list h ∙ case (framesOf list) e where
 
 -- the frame as a part of the list
 pub part : (list : List ℕ) (at k : ℕ) → take (at + 1 + k - (at + 1)) (drop (at + 1) list) ≡ take k (drop (at + 1) list)
-part list at k = let m : at + 1 + k - (at + 1) ≡ k = omega arith in rw m
+part list at k = let e : at + 1 + k - (at + 1) ≡ k = omega arith in rw e
 
-module _ {list t : List ℕ} {p : Position} (w : Partly list p t) (h : p .length < length list) (k : ℕ) (is : k ≡ getD list (p .length) 0) where
+module _ {m : Limits} {list t : List ℕ} {p : Position} (w : Partly m list p t) (h : p .length < length list) (k : ℕ) (is : k ≡ getD list (p .length) 0) where
   pub here : Entry list (p .length) k
   here = entry-at list (p .length) k h is (w .rest-formed)
 
-  left : Sofar (readList limits list) (frame (take k (drop (p .length + 1) list)) ∷ map frame (entries (drop (p .length + 1 + k) list))) p list t
+  left : Sofar m (readList m list) (frame (take k (drop (p .length + 1) list)) ∷ map frame (entries (drop (p .length + 1 + k) list))) p list t
   left = sofar-of (ap (map frame) (here .is)) (w .sofar)
 
-  module _ (f : List ℕ) (same : f ≡ take k (drop (p .length + 1) list)) {a : Admitted} (t′ : List ℕ) (d : Admits (p .state) f t a t′) where
-    tried : Admits (p .state) (take k (drop (p .length + 1) list)) t a t′
+  module _ (f : List ℕ) (same : f ≡ take k (drop (p .length + 1) list)) {a : Admitted} (t′ : List ℕ) (d : Admits m (p .state) f t a t′) where
+    tried : Admits m (p .state) (take k (drop (p .length + 1) list)) t a t′
     tried = rw same at d
 
     pub entered-next : a .step ≡ Next
-        → Entered Next list p (record { at = p .length + 1 + k; line = p .line + 1; length = p .length + 1 + k; state = a .state }) t′
+        → Entered m Next list p (record { at = p .length + 1 + k; line = p .line + 1; length = p .length + 1 + k; state = a .state }) t′
     entered-next e = (
       record {
         bounded = d .bounded;
@@ -82,28 +83,28 @@ module _ {list t : List ℕ} {p : Position} (w : Partly list p t) (h : p .length
       omega arith,
     )
 
-    pub entered-ends : {x : Fault} → a .step ≡ Faulty x → readList limits list ≡ refused (number x) (p .line)
+    pub entered-ends : {x : Fault} → a .step ≡ Faulty x → readList m list ≡ refused (number x) (p .line)
     entered-ends e = sofar-ends t′ tried e left
 
 -- ALL ENTRIES
-pub partly-first : (list t : List ℕ) → length list ≤ 4096 → Formed list → Partly list first t
-partly-first list t h e = record { bounded = bounded-fresh; inside = omega arith; low = omega arith; rest-formed = e; sofar = sofar-first list t (list-formed list h e) }
+pub partly-first : {m : Limits} (list t : List ℕ) → length list ≤ m .list → Formed list → Partly m list first t
+partly-first {m} list t h e = record { bounded = bounded-fresh; inside = omega arith; low = omega arith; rest-formed = e; sofar = sofar-first list t (list-formed m list h e) }
 
-module _ (s : Step) (list : List ℕ) (p q : Position) (t : List ℕ) (d : Entered s list p q t) where
-  pub step-next : s ≡ Next → Partly list q t × (p .length < q .length)
+module _ (m : Limits) (s : Step) (list : List ℕ) (p q : Position) (t : List ℕ) (d : Entered m s list p q t) where
+  pub step-next : s ≡ Next → Partly m list q t × (p .length < q .length)
   step-next e = rw e at d
 
-  pub step-faulty : {x : Fault} → s ≡ Faulty x → readList limits list ≡ refused (number x) (p .line)
+  pub step-faulty : {x : Fault} → s ≡ Faulty x → readList m list ≡ refused (number x) (p .line)
   step-faulty e = rw e at d
 
-module _ {list t : List ℕ} {p : Position} (w : Partly list p t) (h : length list ≤ p .length) where
-  none-left : Sofar (readList limits list) [] p list t
+module _ {m : Limits} {list t : List ℕ} {p : Position} (w : Partly m list p t) (h : length list ≤ p .length) where
+  none-left : Sofar m (readList m list) [] p list t
   none-left = sofar-of (ap (λ (o : Option (List (List ℕ))). map frame (frames o)) (entries-end list (p .length) h)) (w .sofar)
 
-  pub tried-empty : p .state .stations ≡ 0 → readList limits list ≡ refused 4 1
+  pub tried-empty : p .state .stations ≡ 0 → readList m list ≡ refused 4 1
   tried-empty e = end-empty none-left e
 
-  pub tried-all : (p .state .stations ≡ 0 → ⊥) → Allowed list
+  pub tried-all : (p .state .stations ≡ 0 → ⊥) → Allowed m list
   tried-all e = record { reading = none-left .reading; is = end-all none-left e }
 
 -- LINES
@@ -122,11 +123,11 @@ pub lined-none : (list out : List ℕ) → Formed list → length (logOf (entrie
 lined-none list out e h = record { inside = omega arith; rest-formed = e; written = []; whole = refl; is = sym (put-nil out 0); ends = refl; fits = h }
 
 module _ {list out₀ out : List ℕ} {at end : ℕ} (w : Lined list out₀ out at end) where
-  fit : length (w .written) ≤ length out₀
-  fit = omega (arith, w .fits, ap length (w .whole), length-append (w .written) (logOf (entries (drop at list))))
+  within : length (w .written) ≤ length out₀
+  within = omega (arith, w .fits, ap length (w .whole), length-append (w .written) (logOf (entries (drop at list))))
 
   pub lined-length : length out ≡ length out₀
-  lined-length = ap length (w .is) ∙ length-put out₀ (w .written) 0 (omega (arith, fit))
+  lined-length = ap length (w .is) ∙ length-put out₀ (w .written) 0 (omega (arith, within))
 
   module _ (h : at < length list) (k : ℕ) (is : k ≡ getD list at 0) where
     pub entry : Entry list at k
@@ -174,12 +175,12 @@ module _ {list out₀ out : List ℕ} {at end : ℕ} (w : Lined list out₀ out 
       (w .ends ∙ ap length (sym z), w .is ∙ ap (putOf out₀ 0) (sym z))
 
 -- THE SIZE
-module _ {list : List ℕ} (h : length list ≤ 4096) (e : Formed list) (a : Allowed list) where
-  pub allowed-frames : (a .reading .frames ≡ entries list) × (length (logOf (entries list)) ≤ 6492)
+module _ {m : Limits} (fit : Suitable m) {list : List ℕ} (h : length list ≤ m .list) (e : Formed list) (a : Allowed m list) where
+  pub allowed-frames : (a .reading .frames ≡ entries list) × (length (logOf (entries list)) ≤ m .bytes)
   allowed-frames =
-      let s = sizes (a .reading) (entries list) (sym (list-formed list h e) ∙ a .is) in
+      let s = sizes fit (a .reading) (entries list) (sym (list-formed m list h e) ∙ a .is) in
       (s .0, s .2)
 
 -- as the code hands it over
-pub partly-start : (list t : List ℕ) (p : Position) → p ≡ first → length list ≤ 4096 → Formed list → Partly list p t
+pub partly-start : {m : Limits} (list t : List ℕ) (p : Position) → p ≡ first → length list ≤ m .list → Formed list → Partly m list p t
 partly-start list t p e h f = rw e (partly-first list t h f)

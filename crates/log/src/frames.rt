@@ -1,14 +1,16 @@
 // The frames of a frame list.
-use crate::Outcome;
-use crate::Position;
-use crate::Turn;
-use crate::admit;
 use frame::Step;
 use frame::bytes::wide;
+use load::Acceptance;
+use load::Position;
+use load::Turn;
+use load::admit;
 ghost use mathlib.Core.Path.{_≡_};
 ghost use Prim.Native.Nat.{_+_, _≤_, _<_};
 ghost use lib.ListN.{length};
+ghost use Rattle.model.specs.Limits.{limits, storeSize};
 ghost use Rattle.model.specs.Frames.{framesOf, logOf};
+ghost use Rattle.codec.specs.Limits.{NoLarger};
 ghost use Rattle.wire.specs.Put.{putOf};
 ghost use Rattle.log.specs.Entries.{formed, Formed, entries, Partly, Entered, Tried};
 
@@ -34,17 +36,17 @@ pub(crate) fn lengths_ok(list: &[u8]) -> bool
 }
 
 // Tries the frame of the list that stands at p.
-fn try_entry(list: &[u8], p: Position, table: &mut [u8]) -> Turn
-    requires { ⌜ Partly (now list) p (now table) ⌝ }
-    requires { ⌜ (p .length < length (now list)) × (length (now list) ≤ 4096) × (length (now table) ≡ 10240) ⌝ }
-    ensures { λ r. ⌜ Entered (r .step) (now (list .entry)) p (r .position) (now (table .exit)) ⌝ }
+fn try_entry(m: model::Limits, list: &[u8], p: Position, store: &mut [u8]) -> Turn
+    requires { ⌜ NoLarger m limits × Partly m (now list) p (now store) ⌝ }
+    requires { ⌜ (p .length < length (now list)) × (length (now list) ≤ m .list) × (length (now store) ≡ storeSize) ⌝ }
+    ensures { λ r. ⌜ Entered m (r .step) (now (list .entry)) p (r .position) (now (store .exit)) ⌝ }
 {
     let at = p.length;
     let k = wide(list[at]);
     let start = at + 1;
     let end = start + k;
     let s = p.state;
-    let tried = admit(s, &list[start..end], table);
+    let tried = admit(m, s, &list[start..end], store);
     let step = tried.step;
     match step {
         Step::Next => {
@@ -68,14 +70,14 @@ fn try_entry(list: &[u8], p: Position, table: &mut [u8]) -> Turn
 }
 
 // Tries all frames of a list.
-pub(crate) fn try_entries(list: &[u8], table: &mut [u8]) -> Outcome
-    requires { ⌜ Formed (now list) ⌝ }
-    requires { ⌜ (length (now list) ≤ 4096) × (length (now table) ≡ 10240) ⌝ }
-    ensures { λ r. ⌜ Tried r (now (list .entry)) ⌝ }
+pub(crate) fn try_entries(m: model::Limits, list: &[u8], store: &mut [u8]) -> Acceptance
+    requires { ⌜ NoLarger m limits × Formed (now list) ⌝ }
+    requires { ⌜ (length (now list) ≤ m .list) × (length (now store) ≡ storeSize) ⌝ }
+    ensures { λ r. ⌜ Tried m r (now (list .entry)) ⌝ }
 {
     let mut p = Position::first();
     while p.length < list.len() {
-        let turn = try_entry(list, p, table);
+        let turn = try_entry(m, list, p, store);
         let step = turn.step;
         match step {
             Step::Next => {
@@ -83,7 +85,7 @@ pub(crate) fn try_entries(list: &[u8], table: &mut [u8]) -> Outcome
                 p = next;
             }
             Step::Faulty(fault) => {
-                return Outcome::Refused(model::Refusal {
+                return Acceptance::Refused(model::Refusal {
                     fault: fault,
                     line: p.line,
                 });
@@ -92,12 +94,12 @@ pub(crate) fn try_entries(list: &[u8], table: &mut [u8]) -> Outcome
     }
     let s = p.state;
     if s.stations == 0 {
-        return Outcome::Refused(model::Refusal {
+        return Acceptance::Refused(model::Refusal {
             fault: model::Fault::Kind,
             line: 1,
         });
     }
-    Outcome::Accepted
+    Acceptance::Accepted
 }
 
 // Writes the lines of all frames of a list; hands back where they end.

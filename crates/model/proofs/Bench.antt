@@ -6,6 +6,7 @@ use Prim.Native.String as text
 use Prim.Native.String.{String}
 use mathlib.Core.List.{List, [], _∷_, _++_}
 use lib.ListN.{replicate}
+use Rattle.model.specs.Limits.{limits, workspaceSize, barspaceSize}
 use Rattle.model.specs.Lists.{sum, between, every}
 use Rattle.model.specs.Bytes.{push, linesOf, digit, byte, bytes, carried, items, hexDigit, hex, checkByte, line}
 use Rattle.model.specs.Frames.{word, words, listOf}
@@ -58,7 +59,7 @@ benched = record {
 
 -- The reply of Holds at a cut of the bench log with Q.
 pub holdsAt : Cut → Reply
-holdsAt c = holdsOp (asking Q) 0 c 65536 8192
+holdsAt c = holdsOp limits (asking Q) 0 c workspaceSize barspaceSize
 
 -- Ors of two and of three ways.
 pub two-ways : Formula
@@ -97,13 +98,13 @@ pub more :
     × (printed (asking (and (range 0 0 0) (range 1 2 2))) ≡ ascii "40000000000006BA\n")
     × (printed (asking (and (range 0 0 5) (always (not Q)))) ≡ ascii "40000101020000000BB1\n")
     × (printed (asking (possibly (and (range 0 5 5) (range 1 0 0)))) ≡ ascii "400101010000000005B8\n")
-    × (readOp (asking (and (and two-ways two-ways) (and two-ways two-ways))) (replicate 4096 0) .reply ≡ gives (2 ∷ 3 ∷ 1 ∷ 85 ∷ []))
+    × (readOp limits (asking (and (and two-ways two-ways) (and two-ways two-ways))) (replicate (limits .list) 0) .reply ≡ gives (2 ∷ 3 ∷ 1 ∷ 85 ∷ []))
     × (printed (asking (and (and three-ways three-ways) two-ways)) ≡ ascii "50090005A2\n")
 unfolding definitions
 more = (refl, refl, refl, refl, refl, refl, refl)
 
 -- What is promised of accepted logs and their questions is promised of this one.
-pub bench-asked : Asked (asking Q) 0 benched Q
+pub bench-asked : Asked limits (asking Q) 0 benched Q
 unfolding definitions benched
 bench-asked = record {
   frames =

@@ -1,6 +1,43 @@
--- The limits of a log.
+-- The limits of a log, and the sizes that go with them.
+use Prim.Native.Nat.{ℕ, _+_, _*_}
 use Rattle.model.specs.declared.Limits.{Limits}
 
--- 1 to 8 stations, 0 to 127 events, 0 to 16 questions, a log of at most 8,192 bytes, a frame list of at most 4,096.
+-- Of the operations: 1 to 8 stations, 0 to 127 events, 0 to 16 questions, a log of at most 8,192 bytes, a frame list of at most 4,096.
 abbrev pub limits : Limits
 limits = record { stations = 8; events = 127; questions = 16; bytes = 8192; list = 4096 }
+
+-- Of the printing program: the same.
+abbrev pub printLimits : Limits
+printLimits = limits
+
+-- LENT BY THE CALLER: cells of the workspace, cells of the bar space, bytes of the output for an answer line
+abbrev pub workspaceSize : ℕ
+workspaceSize = 65536
+
+abbrev pub barspaceSize : ℕ
+barspaceSize = 8192
+
+abbrev pub lineSize : ℕ
+lineSize = 273
+
+-- LENT BY THE OPERATIONS TO WHAT THEY CALL
+
+-- The bytes of an event's slot: its value in two, its clock in one for each station.
+abbrev pub slotSize : ℕ
+slotSize = limits .stations + 2
+
+-- The event table: for each station a slot before its first event and one for each event.
+abbrev pub tableSize : ℕ
+tableSize = limits .stations * (limits .events + 1) * slotSize
+
+-- What is read of a log: the event table is all of it.
+abbrev pub storeSize : ℕ
+storeSize = tableSize
+
+-- The starts: the empty cut and the clock of each event.
+abbrev pub startsSize : ℕ
+startsSize = (limits .events + 1) * limits .stations
+
+-- What atoms look at: a value for each station and for each event.
+abbrev pub factsSize : ℕ
+factsSize = limits .stations + limits .events

@@ -6,7 +6,8 @@ use mathlib.Core.List.{List, [], _∷_, _++_}
 use mathlib.Core.Option.{Option, none, some}
 use lib.ListN.{length, drop, getElem?}
 use lib.Dec.{ltb}
-use Rattle.model.specs.Limits.{limits}
+use Rattle.model.specs.declared.Limits.{Limits}
+use Rattle.model.specs.Limits.{printLimits, workspaceSize, barspaceSize, lineSize}
 use Rattle.model.specs.Frames.{logOf, listOf}
 use Rattle.model.specs.Formula.{Formula}
 use Rattle.model.specs.Cut.{Cut}
@@ -35,24 +36,24 @@ Kept (refuses k n) before after = after ≡ before
 
 -- READ
 
-unfoldable pub readEffect : Result → List ℕ → Effect
-readEffect (refused k n) out = refuse k n out
-readEffect (accepted r) out =
-    cond (ltb (length out) (limits .list)) (refuse 12 0 out)
+unfoldable pub readEffect : Limits → Result → List ℕ → Effect
+readEffect m (refused k n) out = refuse k n out
+readEffect m (accepted r) out =
+    cond (ltb (length out) (m .list)) (refuse 12 0 out)
     (write (stations (r .computation) ∷ eventCount (r .computation) ∷ length (r .questions) ∷ length (listOf (r .frames)) ∷ []) (listOf (r .frames)) out)
 
--- log, output
-unfoldable pub readOp : List ℕ → List ℕ → Effect
-readOp log out = readEffect (readLog limits log) out
+-- limits, log, output
+unfoldable pub readOp : Limits → List ℕ → List ℕ → Effect
+readOp m log out = readEffect m (readLog m log) out
 
 -- ANSWER
 
 -- The workspace or the bar space is too small.
 unfoldable pub cramped : ℕ → ℕ → Bool
-cramped ws bs = ltb ws 65536 || ltb bs 8192
+cramped ws bs = ltb ws workspaceSize || ltb bs barspaceSize
 
 unfoldable pub lineEffect : List ℕ → List ℕ → Effect
-lineEffect l out = cond (ltb (length out) 273) (refuse 12 0 out) (write (length l ∷ []) l out)
+lineEffect l out = cond (ltb (length out) lineSize) (refuse 12 0 out) (write (length l ∷ []) l out)
 
 unfoldable pub questionEffect : Computation → Option Formula → ℕ → ℕ → List ℕ → Effect
 questionEffect K none ws bs out = refuse 10 0 out
@@ -62,9 +63,9 @@ unfoldable pub answerEffect : Result → ℕ → ℕ → ℕ → List ℕ → Ef
 answerEffect (refused k n) q ws bs out = refuse k n out
 answerEffect (accepted r) q ws bs out = questionEffect (r .computation) (getElem? (r .questions) q) ws bs out
 
--- log, question number, sizes of workspace and bar space, output
-unfoldable pub answerOp : List ℕ → ℕ → ℕ → ℕ → List ℕ → Effect
-answerOp log q ws bs out = answerEffect (readLog limits log) q ws bs out
+-- limits, log, question number, sizes of workspace and bar space, output
+unfoldable pub answerOp : Limits → List ℕ → ℕ → ℕ → ℕ → List ℕ → Effect
+answerOp m log q ws bs out = answerEffect (readLog m log) q ws bs out
 
 -- HOLDS
 
@@ -76,19 +77,19 @@ unfoldable pub holdsReplyTo : Result → ℕ → Cut → ℕ → ℕ → Reply
 holdsReplyTo (refused k n) q c ws bs = refuses k n
 holdsReplyTo (accepted r) q c ws bs = cutReply (r .computation) (getElem? (r .questions) q) c ws bs
 
--- log, question number, cut, sizes of workspace and bar space
-unfoldable pub holdsOp : List ℕ → ℕ → Cut → ℕ → ℕ → Reply
-holdsOp log q c ws bs = holdsReplyTo (readLog limits log) q c ws bs
+-- limits, log, question number, cut, sizes of workspace and bar space
+unfoldable pub holdsOp : Limits → List ℕ → ℕ → Cut → ℕ → ℕ → Reply
+holdsOp m log q c ws bs = holdsReplyTo (readLog m log) q c ws bs
 
 -- WRITE
 
-unfoldable pub writeEffect : Result → List ℕ → Effect
-writeEffect (refused k n) out = refuse k n out
-writeEffect (accepted r) out = cond (ltb (length out) (limits .bytes)) (refuse 12 0 out) (write (length (logOf (r .frames)) ∷ []) (logOf (r .frames)) out)
+unfoldable pub writeEffect : Limits → Result → List ℕ → Effect
+writeEffect m (refused k n) out = refuse k n out
+writeEffect m (accepted r) out = cond (ltb (length out) (m .bytes)) (refuse 12 0 out) (write (length (logOf (r .frames)) ∷ []) (logOf (r .frames)) out)
 
--- frame list, output
-unfoldable pub writeOp : List ℕ → List ℕ → Effect
-writeOp list out = writeEffect (readList limits list) out
+-- limits, frame list, output
+unfoldable pub writeOp : Limits → List ℕ → List ℕ → Effect
+writeOp m list out = writeEffect m (readList m list) out
 
 -- THE PROGRAM
 
@@ -103,8 +104,8 @@ printedOf (accepted r) = answerLines (r .computation) (r .questions)
 
 -- What the program asks for: one byte more than a log may have, so that it sees a log that is too long.
 abbrev pub inputSize : ℕ
-inputSize = suc (limits .bytes)
+inputSize = suc (printLimits .bytes)
 
 -- What is printed for the standard input.
 unfoldable pub printed : List ℕ → List ℕ
-printed log = printedOf (readLog limits log)
+printed log = printedOf (readLog printLimits log)

@@ -6,7 +6,8 @@ use mathlib.Core.Bool.{Bool, true}
 use mathlib.Core.List.{List, [], _∷_}
 use mathlib.Core.Option.{some}
 use lib.ListN.{length, take, getElem?}
-use Rattle.model.specs.Limits.{limits}
+use Rattle.model.specs.declared.Limits.{Limits}
+use Rattle.model.specs.Limits.{limits, workspaceSize, barspaceSize, lineSize}
 use Rattle.model.specs.Lists.{Some, Member}
 use Rattle.model.specs.Formula.{Formula, signs}
 use Rattle.model.specs.Cut.{Cut, _!_, _⊑_, empty}
@@ -19,11 +20,11 @@ use Rattle.model.specs.Reading.{Reading, accepted, readLog}
 use Rattle.model.specs.Reply.{Reply, gives}
 use Rattle.model.specs.Operations.{write, readOp, answerOp, writeOp, printed}
 
--- The log is accepted, K is its computation, and f its question number q.
-pub record Asked (log : List ℕ) (q : ℕ) (K : Computation) (f : Formula) : Type 0 where
+-- The log is accepted under the limits m, K is its computation, and f its question number q.
+pub record Asked (m : Limits) (log : List ℕ) (q : ℕ) (K : Computation) (f : Formula) : Type 0 where
   pub frames : List (List ℕ)
   pub questions : List Formula
-  pub reads : readLog limits log ≡ accepted (record { computation = K; questions = questions; frames = frames })
+  pub reads : readLog m log ≡ accepted (record { computation = K; questions = questions; frames = frames })
   pub is : getElem? questions q ≡ some f
 
 -- The formula is true at c, and at no other consistent cut that contains c.
@@ -72,22 +73,22 @@ pub record Tested (K : Computation) (f : Formula) (c : Cut) (reply : Reply) : Ty
   pub when-false : (reply ≡ gives (0 ∷ [])) ↔ (True K f c → ⊥)
 
 -- DEMAND 2, of what Read hands back (counts of stations, events and questions, the list's length) and its output: writing the frame list gives the log again
-abbrev pub Rewritten : List ℕ → Reply → List ℕ → Type 0
-Rewritten log reply output =
-    (n e q m : ℕ)
-    → reply ≡ gives (n ∷ e ∷ q ∷ m ∷ [])
+abbrev pub Rewritten : Limits → List ℕ → Reply → List ℕ → Type 0
+Rewritten m log reply output =
+    (n e q size : ℕ)
+    → reply ≡ gives (n ∷ e ∷ q ∷ size ∷ [])
     → (buffer : List ℕ)
-    → limits .bytes ≤ length buffer
-    → writeOp (take m output) buffer ≡ write (length log ∷ []) log buffer
+    → m .bytes ≤ length buffer
+    → writeOp m (take size output) buffer ≡ write (length log ∷ []) log buffer
 
 -- DEMAND 2, of what Write hands back (the log's length) and its output: reading the log gives the frame list again
-abbrev pub Reread : List ℕ → Reply → List ℕ → Type 0
-Reread list reply output =
-    (m : ℕ)
-    → reply ≡ gives (m ∷ [])
+abbrev pub Reread : Limits → List ℕ → Reply → List ℕ → Type 0
+Reread m list reply output =
+    (size : ℕ)
+    → reply ≡ gives (size ∷ [])
     → (buffer : List ℕ)
-    → limits .list ≤ length buffer
-    → (n e q : ℕ) × (readOp (take m output) buffer ≡ write (n ∷ e ∷ q ∷ length list ∷ []) list buffer)
+    → m .list ≤ length buffer
+    → (n e q : ℕ) × (readOp m (take size output) buffer ≡ write (n ∷ e ∷ q ∷ length list ∷ []) list buffer)
 
 -- THE PROGRAM, for an accepted log of which r was read
 pub record Prints (log : List ℕ) (r : Reading) : Type 0 where
@@ -99,5 +100,5 @@ pub record Prints (log : List ℕ) (r : Reading) : Type 0 where
   pub answers : (q : ℕ) (f : Formula) (line : List ℕ) → getElem? (r .questions) q ≡ some f → getElem? lines q ≡ some line → Answered (r .computation) f line
   -- each is the line that Answer writes, lent the sizes that it asks for
   pub unchanged : (q : ℕ) (line : List ℕ) → getElem? lines q ≡ some line
-      → (workspace barspace : ℕ) (output : List ℕ) → 65536 ≤ workspace → 8192 ≤ barspace → 273 ≤ length output
-      → answerOp log q workspace barspace output ≡ write (length line ∷ []) line output
+      → (workspace barspace : ℕ) (output : List ℕ) → workspaceSize ≤ workspace → barspaceSize ≤ barspace → lineSize ≤ length output
+      → answerOp limits log q workspace barspace output ≡ write (length line ∷ []) line output

@@ -45,11 +45,12 @@ headerForm m f = leb 1 (length f) && between 1 (m .stations) (getD f 0 0) && eqb
 unfoldable pub opened : List ℕ → Computation
 opened values = record { initial = values; events = map (λ (v : ℕ). []) values }
 
+-- What has been read after a header.
+abbrev pub withHeader : Reading → List ℕ → Reading
+withHeader r f = record { computation = opened (words (drop 1 f)); questions = r .questions; frames = r .frames ++ ((0x10 ∷ f) ∷ []) }
+
 unfoldable pub admitHeader : Limits → Reading → List ℕ → Step
-admitHeader m r f =
-    check 4 (not (begun r))
-    (check 5 (headerForm m f)
-    (go (record { computation = opened (words (drop 1 f)); questions = r .questions; frames = r .frames ++ ((0x10 ∷ f) ∷ []) })))
+admitHeader m r f = check 4 (not (begun r)) (check 5 (headerForm m f) (go (withHeader r f)))
 
 -- EVENT: station s, its new value (two bytes), n clock bytes
 
@@ -66,6 +67,10 @@ eventForm n f = eqb (length f) (n + 3) && ltb (stationOf f) n
 unfoldable pub extended : Computation → ℕ → Event → Computation
 extended K s e = record { initial = K .initial; events = set (K .events) s (history K s ++ (e ∷ [])) }
 
+-- What has been read after an event.
+abbrev pub withEvent : Reading → List ℕ → Reading
+withEvent r f = record { computation = extended (r .computation) (stationOf f) (eventOf f); questions = r .questions; frames = r .frames ++ ((0x20 ∷ f) ∷ []) }
+
 -- No question has been asked yet.
 unfoldable pub unasked : Reading → Bool
 unasked r = eqb (length (r .questions)) 0
@@ -75,16 +80,17 @@ admitEvent m r f =
     check 4 (begun r && unasked r && ltb (eventCount (r .computation)) (m .events))
     (check 6 (eventForm (stations (r .computation)) f)
     (check 7 (clockOk (r .computation) (stationOf f) (eventOf f .clock))
-    (go (record { computation = extended (r .computation) (stationOf f) (eventOf f); questions = r .questions; frames = r .frames ++ ((0x20 ∷ f) ∷ []) }))))
+    (go (withEvent r f))))
 
 -- QUESTION: one formula in prefix form
 
+-- What has been read after a question, of which φ is the formula.
+abbrev pub withQuestion : Reading → List ℕ → Formula → Reading
+withQuestion r f φ = record { computation = r .computation; questions = r .questions ++ (φ ∷ []); frames = r .frames ++ ((0x30 ∷ f) ∷ []) }
+
 unfoldable pub asked : Reading → List ℕ → Option Formula → Step
 asked r f none = fault 8
-asked r f (some φ) =
-    check 8 (sound (stations (r .computation)) φ)
-    (check 9 (fits φ)
-    (go (record { computation = r .computation; questions = r .questions ++ (φ ∷ []); frames = r .frames ++ ((0x30 ∷ f) ∷ []) })))
+asked r f (some φ) = check 8 (sound (stations (r .computation)) φ) (check 9 (fits φ) (go (withQuestion r f φ)))
 
 unfoldable pub admitQuestion : Limits → Reading → List ℕ → Step
 admitQuestion m r f = check 4 (begun r && ltb (length (r .questions)) (m .questions)) (asked r f (formulaOf f))

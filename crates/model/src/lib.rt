@@ -32,6 +32,31 @@ impl Log {
 
     pub const LIST: usize = 4096;
 
+    // The cells of the workspace and of the bar space, and the bytes of the longest answer line.
+    pub const WORKSPACE: usize = 65536;
+
+    pub const BARSPACE: usize = 8192;
+
+    pub const LINE: usize = 273;
+
+    // The most that is printed: an answer line for each question.
+    pub const PRINTED: usize = Log::QUESTIONS * Log::LINE;
+
+    // The bytes of an event's slot: its value in two, its clock in one for each station.
+    pub const SLOT: usize = Log::STATIONS + 2;
+
+    // The event table: for each station a slot before its first event and one for each event.
+    pub const TABLE: usize = Log::STATIONS * (Log::EVENTS + 1) * Log::SLOT;
+
+    // What is read of a log: the event table is all of it.
+    pub const STORE: usize = Log::TABLE;
+
+    // The starts: the empty cut and the clock of each event.
+    pub const STARTS: usize = (Log::EVENTS + 1) * Log::STATIONS;
+
+    // What atoms look at: a value for each station and for each event.
+    pub const FACTS: usize = Log::STATIONS + Log::EVENTS;
+
     // The limits of the definitions are those of the type.
     pub fn limits() -> Limits
         ensures { λ r. ⌜ r ≡ limits ⌝ }

@@ -1,13 +1,16 @@
 -- What a walk over the line that starts at `at` tells.
 use mathlib.Core.Path.{_≡_}
-use Prim.Native.Nat.{ℕ, _+_, _*_, _%_, _≤_}
-use mathlib.Core.List.{List, _∷_}
+use Prim.Native.Nat.{ℕ, zero, suc, _+_, _*_, _%_, _≤_}
+use mathlib.Core.List.{List, [], _∷_}
 use mathlib.Core.Option.{some}
 use lib.ListN.{length, take, drop}
 use Rattle.model.specs.Lists.{total}
 use Rattle.model.specs.Bytes.{more, linesOf, bytes, Item, bad, items}
+use Rattle.wire.specs.declared.Pair.{Pair}
+use Rattle.wire.specs.declared.Pair.the-variants.{Byte, End, Broken}
 use Rattle.wire.specs.declared.Walk.{Walk}
 use Rattle.wire.specs.declared.Walk.the-variants.{Frame, Malformed}
+use Rattle.wire.specs.Pairs.{pairOf}
 
 -- A line of 2 to 100 bytes, now the first k of out, with their sum; the next line starts at `next`.
 pub record Framed (log : List ℕ) (at k sum next : ℕ) (out : List ℕ) : Type 0 where
@@ -29,3 +32,14 @@ pub record Spoilt (log : List ℕ) (at : ℕ) : Type 0 where
 abbrev pub Walked : List ℕ → ℕ → Walk → List ℕ → Type 0
 Walked log at (Frame k sum next) out = Framed log at k sum next out
 Walked log at Malformed out = Spoilt log at
+
+-- The byte of a pair in front of others, if it is one.
+abbrev pub onto : Pair → List ℕ → List ℕ
+onto (Byte b) l = b ∷ l
+onto End l = []
+onto Broken l = []
+
+-- The bytes of the pairs of digits at the front, at most m: what a walk leaves, whatever the line comes to.
+unfoldable pub lead : ℕ → List ℕ → List ℕ
+lead zero s = []
+lead (suc m) s = onto (pairOf s) (lead m (drop 2 s))

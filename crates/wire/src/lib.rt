@@ -6,17 +6,17 @@ ghost use lib.ListN.{length, drop};
 ghost use Rattle.model.specs.Lists.{total};
 ghost use Rattle.model.specs.Bytes.{digit, hexDigit, hex, checkByte, line};
 ghost use Rattle.wire.specs.Pairs.{digitOf, pairOf};
-ghost use Rattle.wire.specs.Walked.{Walked};
+ghost use Rattle.wire.specs.Walked.{Walked, lead};
 ghost use Rattle.wire.specs.Put.{putOf};
 
 // What a byte is as a digit.
-pub enum Digit {
+enum Digit {
     Value(u8),
     Bad,
 }
 
 // What stands at an even place of a line.
-pub enum Pair {
+enum Pair {
     Byte(u8),
     End,
     Broken,
@@ -29,7 +29,7 @@ pub enum Walk {
 }
 
 // The digit 0-9 A-F that a byte is.
-pub fn read_digit(b: u8) -> Digit
+fn read_digit(b: u8) -> Digit
     ensures { λ r. ⌜ digitOf r ≡ digit b ⌝ }
 {
     match b {
@@ -40,7 +40,7 @@ pub fn read_digit(b: u8) -> Digit
 }
 
 // The pair of digits at `i`, or the line's end there.
-pub fn read_pair(log: &[u8], i: usize) -> Pair
+fn read_pair(log: &[u8], i: usize) -> Pair
     requires { ⌜ i < length (now log) ⌝ }
     ensures { λ r. ⌜ r ≡ pairOf (drop i (now (log .entry))) ⌝ }
 {
@@ -64,6 +64,7 @@ pub fn read_pair(log: &[u8], i: usize) -> Pair
 pub fn walk_line(log: &[u8], at: usize, out: &mut [u8]) -> Walk
     requires { ⌜ (at < length (now log)) × (length (now out) ≡ 100) ⌝ }
     ensures { λ r. ⌜ Walked (now (log .entry)) at r (now (out .exit)) ⌝ }
+    ensures { λ _. ⌜ now (out .exit) ≡ putOf (now (out .entry)) 0 (lead 100 (drop at (now (log .entry)))) ⌝ }
 {
     let mut k = 0;
     let mut sum: u8 = 0;
@@ -106,7 +107,7 @@ pub fn put(src: &[u8], dst: &mut [u8], at: usize)
 }
 
 // The digit of a number below 16.
-pub fn hex_digit(d: u8) -> u8
+fn hex_digit(d: u8) -> u8
     requires { ⌜ d < 16 ⌝ }
     ensures { λ r. ⌜ r ≡ hexDigit d ⌝ }
 {
@@ -114,7 +115,7 @@ pub fn hex_digit(d: u8) -> u8
 }
 
 // The two digits of a byte.
-pub fn put_byte(b: u8, out: &mut [u8], at: usize)
+fn put_byte(b: u8, out: &mut [u8], at: usize)
     requires { ⌜ at + 2 ≤ length (now out) ⌝ }
     ensures { λ _. ⌜ now (out .exit) ≡ putOf (now (out .entry)) at (hex (b ∷ [])) ⌝ }
 {
@@ -123,7 +124,7 @@ pub fn put_byte(b: u8, out: &mut [u8], at: usize)
 }
 
 // The digits of bytes.
-pub fn put_hex(src: &[u8], out: &mut [u8], at: usize)
+fn put_hex(src: &[u8], out: &mut [u8], at: usize)
     requires { ⌜ at + 2 * length (now src) ≤ length (now out) ⌝ }
     ensures { λ _. ⌜ now (out .exit) ≡ putOf (now (out .entry)) at (hex (now (src .entry))) ⌝ }
 {
@@ -135,7 +136,7 @@ pub fn put_hex(src: &[u8], out: &mut [u8], at: usize)
 }
 
 // The sum of bytes modulo 256.
-pub fn sum(s: &[u8]) -> u8
+fn sum(s: &[u8]) -> u8
     ensures { λ r. ⌜ r ≡ total (now (s .entry)) % 256 ⌝ }
 {
     let mut t: u8 = 0;
@@ -148,7 +149,7 @@ pub fn sum(s: &[u8]) -> u8
 }
 
 // The byte that brings a frame's sum to zero.
-pub fn check_byte(frame: &[u8]) -> u8
+fn check_byte(frame: &[u8]) -> u8
     ensures { λ r. ⌜ r ≡ checkByte (now (frame .entry)) ⌝ }
 {
     std::num::wrapping_sub_u8(0, sum(frame))

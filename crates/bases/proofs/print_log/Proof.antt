@@ -1,9 +1,13 @@
 -- `bases::print_log`: a log that is accepted is as loading says. Assumes nothing.
 use native.Mathlib.Omega.{arith}
+use Rattle.load.proofs.Loads.{no-larger}
 use Rattle.finder.proofs.Logs.{to-accepts}
 use borrow.Author.Needs.{needs}
 use Rattle.bases.proofs.print_log.Statement.{statement}
 use Rattle.bases.proofs.print_log.Tie as tie
+
+limits-requires : tie.Need-limits-requires
+limits-requires c κs = search needs
 
 slice-aggregate-load : tie.Need-slice-aggregate-load
 slice-aggregate-load c = search needs
@@ -12,7 +16,7 @@ slice-aggregate-load-2 : tie.Need-slice-aggregate-load-2
 slice-aggregate-load-2 c = search needs
 
 load-requires : tie.Need-load-requires
-load-requires c κs = search needs
+load-requires c κs = (no-larger _ (c .before .before .limits .ensures), search needs)
 
 enum-known-outcome : tie.Need-enum-known-outcome
 enum-known-outcome c = search needs
@@ -38,7 +42,7 @@ slice-aggregate-print-loaded-2 c = search needs
 print-loaded-requires : tie.Need-print-loaded-requires
 print-loaded-requires c κs =
     let l = c .before .before .before .before .before .before .before .load in
-    let a = to-accepts _ _ _ _ _ _ (l .ensures) (c .before .before .before .enum-told .given .1) in
+    let a = to-accepts _ (c .before .before .before .before .before .before .before .before .before .before .limits .ensures) _ _ _ _ _ _ (l .ensures .0) (c .before .before .before .enum-told .given .1) in
     ((omega (arith, a .short, l .kept), omega (arith, l .kept)), (_, a))
 
 slice-aggregate-write-all-2 : tie.Need-slice-aggregate-write-all-2
@@ -54,6 +58,7 @@ pub print-log-spec : {M : Type 1} → statement M
 print-log-spec =
     tie.close
     (tie.spec
+    limits-requires
     slice-aggregate-load
     slice-aggregate-load-2
     load-requires

@@ -3,7 +3,7 @@ use mathlib.Core.Path.{_≡_, refl, _∙_}
 use Prim.Native.Nat.{_≤_, _-_}
 use native.Mathlib.Omega.{arith}
 use lib.ListN.{length}
-use Rattle.finder.proofs.Logs.{asks, posed}
+use Rattle.finder.proofs.Logs.{asks-at, posed}
 use borrow.Author.Needs.{needs}
 use Rattle.bases.proofs.print_questions.Statement.{statement}
 use Rattle.bases.proofs.print_questions.Tie as tie
@@ -17,34 +17,34 @@ abbrev μ-loop : tie.MeasureT-loop
 loop-holds : tie.Need-loop-holds Inv-loop μ-loop
 loop-holds c = (omega arith, refl, refl)
 
-add-question-at : tie.Need-add-question-at Inv-loop μ-loop
-add-question-at c = let b = c .before .before .before .before .before .before .before .before .before .pre .1 .accepts .bounded in omega (arith, b .few-events, b .few-questions)
+first-question-requires : tie.Need-first-question-requires Inv-loop μ-loop
+first-question-requires c κs = c .before .before .before .before .before .before .before .before .before .pre .1 .accepts .bounded .few-events
 
-add-question-at-2 : tie.Need-add-question-at-2 Inv-loop μ-loop
-add-question-at-2 c = let b = c .before .before .before .before .before .before .before .before .before .pre .1 .accepts .bounded in omega (arith, b .few-events, b .few-questions)
+add-question-at : tie.Need-add-question-at Inv-loop μ-loop
+add-question-at c = let b = c .before .before .before .before .before .before .before .before .before .before .pre .1 .accepts .bounded in omega (arith, c .first-question .ensures, b .few-events, b .few-questions, c .before .if1 .taken)
 
 question-at-requires : tie.Need-question-at-requires Inv-loop μ-loop
-question-at-requires c κs = let p = c .before .before .before .before .before .before .before .before .before .pre in (p .0 .0, (_, asks (p .1 .accepts) _ (c .if1 .taken)))
+question-at-requires c κs = let p = c .before .before .before .before .before .before .before .before .before .before .pre in (p .0 .0, (_, asks-at (p .1 .accepts) _ (c .first-question .ensures) _ (c .before .if1 .taken)))
 
 print-basis-requires : tie.Need-print-basis-requires Inv-loop μ-loop
 print-basis-requires c κs =
-    let p = c .before .before .before .before .before .before .before .before .before .before .before .before .before .pre in
+    let p = c .before .before .before .before .before .before .before .before .before .before .before .before .before .before .pre in
     let a = p .1 .accepts in
-    let h = c .before .before .before .before .if1 .taken in
-    let i = c .before .before .before .before .before .before .loop .inv in
-    (posed a _ _ (c .before .before .before .question-at .ensures _ (asks a _ h)) h (p .1 .laid), (omega (arith, i .1, p .0 .1), omega (arith, i .2, p .0 .2)))
+    let h = c .before .before .before .before .before .if1 .taken in
+    let i = c .before .before .before .before .before .before .before .loop .inv in
+    (posed a _ _ (c .before .before .before .question-at .ensures _ (asks-at a _ (c .before .before .before .before .first-question .ensures) _ h)) h (p .1 .laid), (omega (arith, i .1, p .0 .1), omega (arith, i .2, p .0 .2)))
 
 add-i : tie.Need-add-i Inv-loop μ-loop
-add-i c = omega (arith, c .before .before .before .before .before .before .before .before .before .before .before .before .before .before .before .before .before .before .pre .1 .accepts .bounded .few-questions, c .before .before .before .before .before .before .before .before .before .if1 .taken)
+add-i c = omega (arith, c .before .before .before .before .before .before .before .before .before .before .before .before .before .before .before .before .before .before .before .pre .1 .accepts .bounded .few-questions, c .before .before .before .before .before .before .before .before .before .before .if1 .taken)
 
 loop-less : tie.Need-loop-less Inv-loop μ-loop
-loop-less c = omega (arith, c .before .before .before .before .before .before .before .before .before .if1 .taken)
+loop-less c = omega (arith, c .before .before .before .before .before .before .before .before .before .before .if1 .taken)
 
 loop-again : tie.Need-loop-again Inv-loop μ-loop
 loop-again c =
     let l = c .before .before .before .before .print-basis in
-    let i = c .before .before .before .before .before .before .before .before .before .before .before .loop .inv in
-    (omega (arith, c .before .before .before .before .before .before .before .before .before .if1 .taken), l .kept .1 .1 .1 .1 .1 .1 .1 .0 ∙ i .1, l .kept .1 .1 .1 .1 .1 .1 .1 .1 .0 ∙ i .2)
+    let i = c .before .before .before .before .before .before .before .before .before .before .before .before .loop .inv in
+    (omega (arith, c .before .before .before .before .before .before .before .before .before .before .if1 .taken), l .kept .1 .1 .1 .1 .1 .1 .1 .0 ∙ i .1, l .kept .1 .1 .1 .1 .1 .1 .1 .1 .0 ∙ i .2)
 
 same-length : tie.Need-same-length Inv-loop μ-loop
 same-length c = c .before .before .loop .inv .1
@@ -62,8 +62,8 @@ print-questions-spec =
     Inv-loop
     μ-loop
     loop-holds
+    first-question-requires
     add-question-at
-    add-question-at-2
     question-at-requires
     print-basis-requires
     add-i

@@ -1,11 +1,15 @@
 -- `print_log` meets its contract: one refusal line, or the lines to all questions. Assumes nothing.
 use native.Mathlib.Omega.{arith}
 use borrow.Author.Needs.{needs}
+use Rattle.load.proofs.Loads.{no-larger}
 use Rattle.finder.proofs.Lines.{refused-line}
 use Rattle.finder.proofs.Logs.{to-accepts, to-refused}
 use Rattle.finder.proofs.Printed.{printed-so, printed-lines, printed-refusal}
 use Rattle.finder.proofs.print_log.Statement.{statement}
 use Rattle.finder.proofs.print_log.Tie as tie
+
+limits-requires : tie.Need-limits-requires
+limits-requires c κs = search needs
 
 slice-aggregate-load : tie.Need-slice-aggregate-load
 slice-aggregate-load c = search needs
@@ -14,7 +18,7 @@ slice-aggregate-load-2 : tie.Need-slice-aggregate-load-2
 slice-aggregate-load-2 c = search needs
 
 load-requires : tie.Need-load-requires
-load-requires c κs = search needs
+load-requires c κs = (no-larger _ (c .before .before .limits .ensures), search needs)
 
 enum-known-outcome : tie.Need-enum-known-outcome
 enum-known-outcome c = search needs
@@ -24,7 +28,7 @@ number-requires c κs = search needs
 
 put-refusal-requires : tie.Need-put-refusal-requires
 put-refusal-requires c κs =
-    let e = to-refused _ _ _ _ _ _ (c .before .before .before .before .before .before .before .load .ensures) _ (c .before .before .before .outcome .given .1) in
+    let e = to-refused _ (c .before .before .before .before .before .before .before .before .before .before .limits .ensures) _ _ _ _ _ _ (c .before .before .before .before .before .before .before .load .ensures .0) _ (c .before .before .before .outcome .given .1) in
     (omega (arith, refused-line _ _ _ e), search needs)
 
 enum-told : tie.Need-enum-told
@@ -39,23 +43,24 @@ slice-aggregate-print-loaded-2 c = search needs
 print-loaded-requires : tie.Need-print-loaded-requires
 print-loaded-requires c κs =
     let l = c .before .before .before .before .before .before .before .before .load in
-    let a = to-accepts _ _ _ _ _ _ (l .ensures) (c .before .before .before .before .enum-told .given .1) in
+    let a = to-accepts _ (c .before .before .before .before .before .before .before .before .before .before .before .limits .ensures) _ _ _ _ _ _ (l .ensures .0) (c .before .before .before .before .enum-told .given .1) in
     ((omega (arith, a .short, l .kept), omega (arith, l .kept), search needs), (_, a))
 
 returns : tie.Need-returns
 returns c =
-    let e = to-refused _ _ _ _ _ _ (c .before .before .before .before .before .before .before .before .load .ensures) _ (c .before .before .before .before .outcome .given .1) in
+    let e = to-refused _ (c .before .before .before .before .before .before .before .before .before .before .before .limits .ensures) _ _ _ _ _ _ (c .before .before .before .before .before .before .before .before .load .ensures .0) _ (c .before .before .before .before .outcome .given .1) in
     printed-so (printed-refusal _ _ _ e _ (c .before .before .number .ensures)) (c .put-refusal .ensures)
 
 returns-2 : tie.Need-returns-2
 returns-2 c =
-    let a = to-accepts _ _ _ _ _ _ (c .before .before .before .before .before .before .before .before .before .load .ensures) (c .before .before .before .before .before .enum-told .given .1) in
+    let a = to-accepts _ (c .before .before .before .before .before .before .before .before .before .before .before .before .limits .ensures) _ _ _ _ _ _ (c .before .before .before .before .before .before .before .before .before .load .ensures .0) (c .before .before .before .before .before .enum-told .given .1) in
     printed-so (printed-lines _ (a .reading) (a .is)) (c .print-loaded .ensures _ a)
 
 pub print-log-spec : {M : Type 1} → statement M
 print-log-spec =
     tie.close
     (tie.spec
+    limits-requires
     slice-aggregate-load
     slice-aggregate-load-2
     load-requires

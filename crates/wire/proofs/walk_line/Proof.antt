@@ -4,12 +4,12 @@ use mathlib.Core.Path.{sym, _∙_}
 use Prim.Native.Nat.{_-_}
 use native.Mathlib.Omega.{arith}
 use lib.ListN.{length}
-use Rattle.wire.proofs.Walks.{Walking, walk-start, walk-byte, walk-end, walk-many, walk-few, walk-broken, walk-over}
+use Rattle.wire.proofs.Walks.{Walking, walk-start, walk-byte, walk-end, walk-many, walk-few, walk-broken, walk-over, leaves-many, leaves-end, leaves-broken, leaves-over}
 use Rattle.wire.proofs.walk_line.Statement.{statement}
 use Rattle.wire.proofs.walk_line.Tie as tie
 
 abbrev Inv-loop : tie.InvT-loop
-Inv-loop log at out₀ k₀ sum₀ i₀ out k sum i = Walking log at out k sum i
+Inv-loop log at out₀ k₀ sum₀ i₀ out k sum i = Walking log at out₀ out k sum i
 
 abbrev μ-loop : tie.MeasureT-loop
 μ-loop log at out₀ k₀ sum₀ i₀ out k sum i = length log - i
@@ -27,7 +27,7 @@ same-length : tie.Need-same-length Inv-loop μ-loop
 same-length c = omega arith
 
 returns : tie.Need-returns Inv-loop μ-loop
-returns c = walk-many (c .before .before .before .before .before .before .loop .inv) (sym (c .before .before .before .before .read-pair .ensures) ∙ c .before .before .b .given .1) (c .if1 .taken)
+returns c = let w = c .before .before .before .before .before .before .loop .inv in (walk-many w (sym (c .before .before .before .before .read-pair .ensures) ∙ c .before .before .b .given .1) (c .if1 .taken), leaves-many w (c .if1 .taken))
 
 slice-write-out : tie.Need-slice-write-out Inv-loop μ-loop
 slice-write-out c = omega arith
@@ -56,7 +56,7 @@ same-length-2 : tie.Need-same-length-2 Inv-loop μ-loop
 same-length-2 c = omega arith
 
 returns-2 : tie.Need-returns-2 Inv-loop μ-loop
-returns-2 c = walk-few (c .before .before .before .before .before .loop .inv) (sym (c .before .before .before .read-pair .ensures) ∙ c .before .enum-told .given .1) (c .if2 .taken)
+returns-2 c = let w = c .before .before .before .before .before .loop .inv in let e = sym (c .before .before .before .read-pair .ensures) ∙ c .before .enum-told .given .1 in (walk-few w e (c .if2 .taken), leaves-end w e)
 
 add-t14 : tie.Need-add-t14 Inv-loop μ-loop
 add-t14 c = omega arith
@@ -65,7 +65,7 @@ same-length-3 : tie.Need-same-length-3 Inv-loop μ-loop
 same-length-3 c = omega arith
 
 returns-3 : tie.Need-returns-3 Inv-loop μ-loop
-returns-3 c = walk-end (c .before .before .before .before .before .loop .inv) (omega arith) (sym (c .before .before .before .read-pair .ensures) ∙ c .before .enum-told .given .1) (c .if2 .left)
+returns-3 c = let w = c .before .before .before .before .before .loop .inv in let e = sym (c .before .before .before .read-pair .ensures) ∙ c .before .enum-told .given .1 in (walk-end w (omega arith) e (c .if2 .left), leaves-end w e)
 
 enum-told-2 : tie.Need-enum-told-2 Inv-loop μ-loop
 enum-told-2 c = search needs
@@ -74,13 +74,13 @@ same-length-4 : tie.Need-same-length-4 Inv-loop μ-loop
 same-length-4 c = omega arith
 
 returns-4 : tie.Need-returns-4 Inv-loop μ-loop
-returns-4 c = walk-broken (c .before .before .before .before .loop .inv) (omega arith) (sym (c .before .before .read-pair .ensures) ∙ c .enum-told2 .given .1)
+returns-4 c = let w = c .before .before .before .before .loop .inv in let e = sym (c .before .before .read-pair .ensures) ∙ c .enum-told2 .given .1 in (walk-broken w (omega arith) e, leaves-broken w e)
 
 same-length-5 : tie.Need-same-length-5 Inv-loop μ-loop
 same-length-5 c = omega arith
 
 returns-5 : tie.Need-returns-5 Inv-loop μ-loop
-returns-5 c = walk-over (c .before .loop .inv) (c .loop-test .left)
+returns-5 c = (walk-over (c .before .loop .inv) (c .loop-test .left), leaves-over (c .before .loop .inv) (c .loop-test .left))
 
 pub walk-line-spec : {M : Type 1} → statement M
 walk-line-spec =

@@ -1,7 +1,6 @@
--- The slot of the next event lies within the table, since the state has fewer than 127 events. Assumes nothing.
+-- The slot of the next event lies within the table, since the state has fewer events than it may have. Assumes nothing.
 use mathlib.Core.Path.{ap, _∙_}
 use Prim.Native.Nat.{ℕ, _+_}
-use lib.ListN.{set}
 use Rattle.wire.specs.Put.{putOf}
 use Rattle.frame.specs.Table.{slot}
 use native.Mathlib.Omega.{arith}
@@ -24,20 +23,14 @@ slot-requires c κs = let p = c .before .before .before .before .pre .0 in let e
 put-requires : tie.Need-put-requires
 put-requires c κs = search needs
 
-cast-counts : tie.Need-cast-counts
-cast-counts c = let p = c .before .before .before .before .before .before .before .before .before .pre .0 in let e = p .each (c .before .before .before .before .before .before .before .before .before .args .j) in let q = c .before .before .before .before .before .before .before .before .before .pre .1 in omega (arith, c .before .before .before .before .before .wide .ensures .0)
-
-array-write-counts : tie.Need-array-write-counts
-array-write-counts c = search needs
-
-add-t8 : tie.Need-add-t8
-add-t8 c = search needs
+with-event-requires : tie.Need-with-event-requires
+with-event-requires c κs = let p = c .before .before .before .before .before .before .before .before .before .pre in (p .0, (p .1 .0, p .1 .1))
 
 same-length : tie.Need-same-length
 same-length c = search needs
 
 returns : tie.Need-returns
-returns c = let a = c .before .before .before .before .before .before .before .before .before .before .args in let w = c .before .before .before .before .before .before .wide .ensures .0 in (ap (λ (x : ℕ). record { stations = a .s .stations; events = a .s .events + 1; questions = a .s .questions; counts = set (a .s .counts) (a .j) (x + 1) }) w, c .before .before .before .put .ensures ∙ ap (λ (x : ℕ). putOf (a .table .now) x (a .bytes .now)) (c .before .before .before .before .before .slot .ensures .0 ∙ ap (λ (x : ℕ). slot (a .j) (x + 1)) w))
+returns c = let a = c .before .before .before .before .before .before .before .before .before .before .args in (c .with-event .ensures, c .before .before .before .put .ensures ∙ ap (λ (x : ℕ). putOf (a .store .now) x (a .bytes .now)) (c .before .before .before .before .before .slot .ensures .0 ∙ ap (λ (x : ℕ). slot (a .j) (x + 1)) (c .before .before .before .before .before .before .wide .ensures .0)))
 
 pub add-event-spec : {M : Type 1} → statement M
 add-event-spec =
@@ -48,8 +41,6 @@ add-event-spec =
     add-k
     slot-requires
     put-requires
-    cast-counts
-    array-write-counts
-    add-t8
+    with-event-requires
     same-length
     returns)

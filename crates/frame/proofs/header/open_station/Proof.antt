@@ -1,4 +1,4 @@
--- The ten bytes of the slot are put at its place. Assumes nothing.
+-- The bytes of the slot are put at its place. Assumes nothing.
 use mathlib.Core.Path.{ap, _∙_}
 use Prim.Native.Nat.{ℕ}
 use Rattle.wire.specs.Put.{putOf}
@@ -44,7 +44,7 @@ same-length : tie.Need-same-length
 same-length c = search needs
 
 returns : tie.Need-returns
-returns c = let a = c .before .before .before .before .before .before .before .before .before .before .args in c .before .before .put .ensures ∙ ap (λ (x : ℕ). putOf (a .table .now) x (opening (a .frame .now) (a .j))) (c .before .before .before .before .before .before .before .slot .ensures .0)
+returns c = let a = c .before .before .before .before .before .before .before .before .before .before .args in c .before .before .put .ensures ∙ ap (λ (x : ℕ). putOf (a .store .now) x (opening (a .frame .now) (a .j))) (c .before .before .before .before .before .before .before .slot .ensures .0)
 
 pub open-station-spec : {M : Type 1} → statement M
 open-station-spec =

@@ -4,16 +4,17 @@ use mathlib.Core.Path.{_≡_, sym, _∙_}
 use Prim.Native.Nat.{_≤_, _-_}
 use native.Mathlib.Omega.{arith}
 use lib.ListN.{length}
+use Rattle.model.specs.Limits.{storeSize}
 use Rattle.frame.specs.Header.{Open}
 use Rattle.frame.proofs.Headers.{open-none, open-more, open-all}
 use Rattle.frame.proofs.header.open_stations.Statement.{statement}
 use Rattle.frame.proofs.header.open_stations.Tie as tie
 
 abbrev Inv-loop : tie.InvT-loop
-Inv-loop frame n table₀ j₀ table j = (j ≤ n) × (length table ≡ 10240) × Open frame j table
+Inv-loop frame n store₀ j₀ store j = (j ≤ n) × (length store ≡ storeSize) × Open frame j store
 
 abbrev μ-loop : tie.MeasureT-loop
-μ-loop frame n table₀ j₀ table j = n - j
+μ-loop frame n store₀ j₀ store j = n - j
 
 loop-holds : tie.Need-loop-holds Inv-loop μ-loop
 loop-holds c = (omega arith, c .before .before .pre .2, open-none)

@@ -5,7 +5,7 @@ use Rattle.frame.proofs.header.station_count.Statement.{statement}
 use Rattle.frame.proofs.header.station_count.Tie as tie
 
 returns : tie.Need-returns
-returns c = headed-short _ (c .if1 .taken)
+returns c = headed-short _ _ (c .if1 .taken)
 
 shared-slice-read-wide : tie.Need-shared-slice-read-wide
 shared-slice-read-wide c = search needs
@@ -14,7 +14,7 @@ wide-requires : tie.Need-wide-requires
 wide-requires c κs = search needs
 
 returns-2 : tie.Need-returns-2
-returns-2 c = headed-many _ (c .before .wide .ensures .0) (c .if2 .taken)
+returns-2 c = headed-many _ _ (c .before .before .wide .ensures .0) (c .if2 .taken)
 
 mul-if3 : tie.Need-mul-if3
 mul-if3 c = search needs
@@ -23,10 +23,10 @@ add-if3 : tie.Need-add-if3
 add-if3 c = search needs
 
 returns-3 : tie.Need-returns-3
-returns-3 c = headed-uneven _ (c .before .before .wide .ensures .0) (c .before .before .before .before .before .before .pre) (c .if3 .taken)
+returns-3 c = headed-uneven _ _ (c .before .before .before .wide .ensures .0) (c .before .before .before .before .before .before .before .pre) (c .if3 .taken)
 
 returns-4 : tie.Need-returns-4
-returns-4 c = headed _ (c .before .before .wide .ensures .0) (c .before .if2 .left) (c .if3 .left)
+returns-4 c = headed _ _ (c .before .before .before .wide .ensures .0) (c .before .if2 .left) (c .if3 .left)
 
 pub station-count-spec : {M : Type 1} → statement M
 station-count-spec =

@@ -4,28 +4,29 @@ use mathlib.Core.Path.{_≡_, sym, _∙_}
 use Prim.Native.Nat.{_-_, _<_}
 use native.Mathlib.Omega.{arith}
 use lib.ListN.{length}
+use Rattle.model.specs.Limits.{storeSize}
 use Rattle.log.specs.Entries.{Partly}
 use Rattle.log.proofs.Writes.{partly-start, step-next, step-faulty, tried-empty, tried-all}
 use Rattle.log.proofs.frames.try_entries.Statement.{statement}
 use Rattle.log.proofs.frames.try_entries.Tie as tie
 
 abbrev Inv-loop : tie.InvT-loop
-Inv-loop list table₀ p₀ table p = Partly list p table × (length table ≡ 10240)
+Inv-loop m list store₀ p₀ store p = Partly m list p store × (length store ≡ storeSize)
 
 abbrev μ-loop : tie.MeasureT-loop
-μ-loop list table₀ p₀ table p = length list - p .length
+μ-loop m list store₀ p₀ store p = length list - p .length
 
 first-requires : tie.Need-first-requires Inv-loop μ-loop
 first-requires c κs = search needs
 
 loop-holds : tie.Need-loop-holds Inv-loop μ-loop
-loop-holds c = let p = c .before .before .before .pre in (partly-start _ _ _ (c .first .ensures) (p .1 .0) (p .0), p .1 .1)
+loop-holds c = let p = c .before .before .before .pre in (partly-start _ _ _ (c .first .ensures) (p .1 .0) (p .0 .1), p .1 .1)
 
-onward : (c : tie.After-next Inv-loop μ-loop) → Partly (c .before .before .before .before .before .before .before .before .before .before .before .before .before .args .list .now) (c .before .before .before .before .before .try-entry .result .position) (c .before .before .before .before .before .try-entry .last .1 .1 .0) × (c .before .before .before .before .before .before .before .before .before .loop .p .length < c .before .before .before .before .before .try-entry .result .position .length)
-onward c = let T = c .before .before .before .before .before .try-entry in step-next (T .result .step) (c .before .before .before .before .before .before .before .before .before .before .before .before .before .args .list .now) (c .before .before .before .before .before .before .before .before .before .loop .p) (T .result .position) (T .last .1 .1 .0) (T .ensures) (c .before .enum-told .given .1)
+onward : (c : tie.After-next Inv-loop μ-loop) → Partly (c .before .before .before .before .before .before .before .before .before .before .before .before .before .args .m) (c .before .before .before .before .before .before .before .before .before .before .before .before .before .args .list .now) (c .before .before .before .before .before .try-entry .result .position) (c .before .before .before .before .before .try-entry .last .1 .1 .1 .0) × (c .before .before .before .before .before .before .before .before .before .loop .p .length < c .before .before .before .before .before .try-entry .result .position .length)
+onward c = let T = c .before .before .before .before .before .try-entry in step-next (c .before .before .before .before .before .before .before .before .before .before .before .before .before .args .m) (T .result .step) (c .before .before .before .before .before .before .before .before .before .before .before .before .before .args .list .now) (c .before .before .before .before .before .before .before .before .before .loop .p) (T .result .position) (T .last .1 .1 .1 .0) (T .ensures) (c .before .enum-told .given .1)
 
 try-entry-requires : tie.Need-try-entry-requires Inv-loop μ-loop
-try-entry-requires c κs = let i = c .before .before .before .loop .inv in (i .0, (c .before .if1 .taken, c .before .before .before .before .before .before .before .pre .1 .0, i .1))
+try-entry-requires c κs = let i = c .before .before .before .loop .inv in ((c .before .before .before .before .before .before .before .pre .0 .0, i .0), (c .before .if1 .taken, c .before .before .before .before .before .before .before .pre .1 .0, i .1))
 
 enum-told : tie.Need-enum-told Inv-loop μ-loop
 enum-told c = search needs
@@ -34,16 +35,16 @@ loop-less : tie.Need-loop-less Inv-loop μ-loop
 loop-less c = let f = onward c .1 in omega (arith, f, c .before .before .before .before .before .before .before .if1 .taken)
 
 loop-again : tie.Need-loop-again Inv-loop μ-loop
-loop-again c = (onward c .0, c .before .before .before .before .before .try-entry .kept .1 .1 .0 ∙ c .before .before .before .before .before .before .before .before .before .loop .inv .1)
+loop-again c = (onward c .0, c .before .before .before .before .before .try-entry .kept .1 .1 .1 .0 ∙ c .before .before .before .before .before .before .before .before .before .loop .inv .1)
 
 enum-known-step : tie.Need-enum-known-step Inv-loop μ-loop
 enum-known-step c = search needs
 
 same-length : tie.Need-same-length Inv-loop μ-loop
-same-length c = c .before .before .before .before .before .try-entry .kept .1 .1 .0 ∙ c .before .before .before .before .before .before .before .before .before .loop .inv .1 ∙ sym (c .before .before .before .before .before .before .before .before .before .before .before .before .before .pre .1 .1)
+same-length c = c .before .before .before .before .before .try-entry .kept .1 .1 .1 .0 ∙ c .before .before .before .before .before .before .before .before .before .loop .inv .1 ∙ sym (c .before .before .before .before .before .before .before .before .before .before .before .before .before .pre .1 .1)
 
 returns : tie.Need-returns Inv-loop μ-loop
-returns c = let T = c .before .before .before .before .before .try-entry in step-faulty (T .result .step) (c .before .before .before .before .before .before .before .before .before .before .before .before .before .args .list .now) (c .before .before .before .before .before .before .before .before .before .loop .p) (T .result .position) (T .last .1 .1 .0) (T .ensures) (c .before .step .given .1)
+returns c = let T = c .before .before .before .before .before .try-entry in step-faulty (c .before .before .before .before .before .before .before .before .before .before .before .before .before .args .m) (T .result .step) (c .before .before .before .before .before .before .before .before .before .before .before .before .before .args .list .now) (c .before .before .before .before .before .before .before .before .before .loop .p) (T .result .position) (T .last .1 .1 .1 .0) (T .ensures) (c .before .step .given .1)
 
 same-length-2 : tie.Need-same-length-2 Inv-loop μ-loop
 same-length-2 c = c .before .before .before .before .before .loop .inv .1 ∙ sym (c .before .before .before .before .before .before .before .before .before .pre .1 .1)

@@ -26,19 +26,19 @@ part-admit-start : tie.Need-part-admit-start
 part-admit-start c = search needs
 
 entry : (c : tie.After-wide) → Entry (c .before .before .before .before .args .list .now) (c .before .before .before .before .args .p .length) (c .wide .result)
-entry c = here (c .before .before .before .before .pre .0) (c .before .before .before .before .pre .1 .0) _ (c .wide .ensures .0)
+entry c = here (c .before .before .before .before .pre .0 .1) (c .before .before .before .before .pre .1 .0) _ (c .wide .ensures .0)
 
 part-admit-end : tie.Need-part-admit-end
 part-admit-end c = let e = entry (c .before) in omega arith
 
 admit-requires : tie.Need-admit-requires
-admit-requires c κs = let e = entry (c .before .before .before) in let p = c .before .before .before .before .before .before .before .pre in (p .0 .bounded, (simp (length-take, length-drop) (omega arith), simp (length-take, length-drop) (omega arith), p .1 .2))
+admit-requires c κs = let e = entry (c .before .before .before) in let p = c .before .before .before .before .before .before .before .pre in ((p .0 .0, p .0 .1 .bounded), (simp (length-take, length-drop) (omega arith), simp (length-take, length-drop) (omega arith), p .1 .2))
 
 enum-told : tie.Need-enum-told
 enum-told c = search needs
 
-add-t23 : tie.Need-add-t23
-add-t23 c = search needs
+add-t24 : tie.Need-add-t24
+add-t24 c = search needs
 
 enum-known-step : tie.Need-enum-known-step
 enum-known-step c = search needs
@@ -47,13 +47,13 @@ same-length : tie.Need-same-length
 same-length c = search needs
 
 returns : tie.Need-returns
-returns c = entered-next (c .before .before .before .before .before .before .before .before .before .before .before .before .before .before .pre .0) (c .before .before .before .before .before .before .before .before .before .before .before .before .before .before .pre .1 .0) _ (c .before .before .before .before .before .before .before .before .before .before .wide .ensures .0) _ (part (c .before .before .before .before .before .before .before .before .before .before .before .before .before .before .args .list .now) (c .before .before .before .before .before .before .before .before .before .before .before .before .before .before .args .p .length) (c .before .before .before .before .before .before .before .before .before .before .wide .result)) _ (c .before .before .before .before .before .before .admit .ensures) (c .before .before .enum-told .given .1)
+returns c = entered-next (c .before .before .before .before .before .before .before .before .before .before .before .before .before .before .pre .0 .1) (c .before .before .before .before .before .before .before .before .before .before .before .before .before .before .pre .1 .0) _ (c .before .before .before .before .before .before .before .before .before .before .wide .ensures .0) _ (part (c .before .before .before .before .before .before .before .before .before .before .before .before .before .before .args .list .now) (c .before .before .before .before .before .before .before .before .before .before .before .before .before .before .args .p .length) (c .before .before .before .before .before .before .before .before .before .before .wide .result)) _ (c .before .before .before .before .before .before .admit .ensures) (c .before .before .enum-told .given .1)
 
 same-length-2 : tie.Need-same-length-2
 same-length-2 c = search needs
 
 returns-2 : tie.Need-returns-2
-returns-2 c = entered-ends (c .before .before .before .before .before .before .before .before .before .before .before .before .before .pre .0) (c .before .before .before .before .before .before .before .before .before .before .before .before .before .pre .1 .0) _ (c .before .before .before .before .before .before .before .before .before .wide .ensures .0) _ (part (c .before .before .before .before .before .before .before .before .before .before .before .before .before .args .list .now) (c .before .before .before .before .before .before .before .before .before .before .before .before .before .args .p .length) (c .before .before .before .before .before .before .before .before .before .wide .result)) _ (c .before .before .before .before .before .admit .ensures) (c .before .step .given .1)
+returns-2 c = entered-ends (c .before .before .before .before .before .before .before .before .before .before .before .before .before .pre .0 .1) (c .before .before .before .before .before .before .before .before .before .before .before .before .before .pre .1 .0) _ (c .before .before .before .before .before .before .before .before .before .wide .ensures .0) _ (part (c .before .before .before .before .before .before .before .before .before .before .before .before .before .args .list .now) (c .before .before .before .before .before .before .before .before .before .before .before .before .before .args .p .length) (c .before .before .before .before .before .before .before .before .before .wide .result)) _ (c .before .before .before .before .before .admit .ensures) (c .before .step .given .1)
 
 pub try-entry-spec : {M : Type 1} → statement M
 try-entry-spec =
@@ -68,7 +68,7 @@ try-entry-spec =
     part-admit-end
     admit-requires
     enum-told
-    add-t23
+    add-t24
     enum-known-step
     same-length
     returns

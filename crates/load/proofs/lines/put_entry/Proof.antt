@@ -4,8 +4,8 @@ use native.Mathlib.Omega.{arith}
 use lib.ListN.{length-set}
 use Rattle.wire.proofs.Puts.{put-cons}
 use borrow.Author.Needs.{needs}
-use Rattle.log.proofs.lines.put_entry.Statement.{statement}
-use Rattle.log.proofs.lines.put_entry.Tie as tie
+use Rattle.load.proofs.lines.put_entry.Statement.{statement}
+use Rattle.load.proofs.lines.put_entry.Tie as tie
 
 cast-list : tie.Need-cast-list
 cast-list c = search needs

@@ -7,10 +7,10 @@ use lib.Seq.{length-take-le}
 use Rattle.model.specs.declared.Fault.the-variants.{LineForm, CheckByte}
 use Rattle.wire.specs.Walked.{Framed}
 use Rattle.wire.proofs.Carried.{walked-frame, walked-malformed}
-use Rattle.log.proofs.Loads.{reads-malformed, reads-check, reads-frame}
+use Rattle.load.proofs.Loads.{reads-malformed, reads-check, reads-frame}
 use borrow.Author.Needs.{needs}
-use Rattle.log.proofs.lines.load_line.Statement.{statement}
-use Rattle.log.proofs.lines.load_line.Tie as tie
+use Rattle.load.proofs.lines.load_line.Statement.{statement}
+use Rattle.load.proofs.lines.load_line.Tie as tie
 
 slice-aggregate-walk-line : tie.Need-slice-aggregate-walk-line
 slice-aggregate-walk-line c = search needs
@@ -23,13 +23,13 @@ enum-known-k c = search needs
 
 -- what the walk over the line tells
 g : (c : tie.After-k) → Framed (c .before .before .before .before .before .before .before .before .args .log .now) (c .before .before .before .before .before .before .before .before .args .p .at) (c .k .given .0 .0) (c .k .given .0 .1 .0) (c .k .given .0 .1 .1 .0) (c .before .before .before .walk-line .last .1 .1 .0)
-g c = walked-frame _ (c .before .before .before .walk-line .ensures) (c .k .given .1)
+g c = walked-frame _ (c .before .before .before .walk-line .ensures .0) (c .k .given .1)
 
 long : (c : tie.After-k) → length (take (c .k .given .0 .0 - 1) (c .before .before .before .walk-line .last .1 .1 .0)) ≡ c .k .given .0 .0 - 1
 long c = length-take-le _ _ (let w = g c in omega arith)
 
 returns : tie.Need-returns
-returns c = reads-check (c .before .before .before .before .before .before .before .before .before .before .pre .0) _ _ (g (c .before .before)) (c .if1 .taken) CheckByte refl
+returns c = reads-check (c .before .before .before .before .before .before .before .before .before .before .pre .0 .1) _ _ (g (c .before .before)) (c .if1 .taken) CheckByte refl
 
 sub-n : tie.Need-sub-n
 sub-n c = let w = g (c .before .before) in omega arith
@@ -41,7 +41,7 @@ slice-aggregate-load-frame : tie.Need-slice-aggregate-load-frame
 slice-aggregate-load-frame c = sym (long (c .before .before .before))
 
 load-frame-requires : tie.Need-load-frame-requires
-load-frame-requires c κs = let w = g (c .before .before .before .before .before) in let l = long (c .before .before .before .before .before) in let p = c .before .before .before .before .before .before .before .before .before .before .before .before .before .pre in (p .0 .bounded, (omega arith, omega arith, omega (arith, p .0 .half, p .0 .inside, p .1), omega (arith, p .0 .low, p .1), p .1 .3))
+load-frame-requires c κs = let w = g (c .before .before .before .before .before) in let l = long (c .before .before .before .before .before) in let p = c .before .before .before .before .before .before .before .before .before .before .before .before .before .pre in ((p .0 .0, p .0 .1 .bounded), (omega arith, omega arith, omega (arith, p .0 .1 .half, p .0 .1 .inside, p .0 .0 .bytes, p .1), p .1 .2, omega (arith, p .0 .1 .low, p .0 .0 .bytes, p .1), p .1 .3))
 
 enum-told : tie.Need-enum-told
 enum-told c = search needs
@@ -53,10 +53,10 @@ same-length-2 : tie.Need-same-length-2
 same-length-2 c = search needs
 
 returns-2 : tie.Need-returns-2
-returns-2 c = reads-frame (c .before .before .before .before .before .before .before .before .before .before .before .before .before .before .before .before .before .before .pre .0) _ _ (g (c .before .before .before .before .before .before .before .before .before .before)) (c .before .before .before .before .before .before .before .before .if1 .left) _ _ _ (c .before .before .before .before .load-frame .ensures)
+returns-2 c = reads-frame (c .before .before .before .before .before .before .before .before .before .before .before .before .before .before .before .before .before .before .pre .0 .1) _ _ (g (c .before .before .before .before .before .before .before .before .before .before)) (c .before .before .before .before .before .before .before .before .if1 .left) _ _ _ (c .before .before .before .before .load-frame .ensures)
 
 returns-3 : tie.Need-returns-3
-returns-3 c = reads-malformed (c .before .before .before .before .before .before .before .before .pre .0) _ _ (walked-malformed _ _ (c .before .before .before .walk-line .ensures) (c .enum-told .given .1)) LineForm refl
+returns-3 c = reads-malformed (c .before .before .before .before .before .before .before .before .pre .0 .1) _ _ (walked-malformed _ _ (c .before .before .before .walk-line .ensures .0) (c .enum-told .given .1)) LineForm refl
 
 pub load-line-spec : {M : Type 1} → statement M
 load-line-spec =

@@ -1,6 +1,6 @@
 // The lines of a log.
+use crate::Acceptance;
 use crate::Loaded;
-use crate::Outcome;
 use crate::Position;
 use crate::Turn;
 use crate::admit;
@@ -9,9 +9,11 @@ ghost use mathlib.Core.Path.{_≡_};
 ghost use mathlib.Core.List.{_∷_};
 ghost use Prim.Native.Nat.{_+_, _≤_, _<_};
 ghost use lib.ListN.{length};
+ghost use Rattle.model.specs.Limits.{limits, storeSize};
+ghost use Rattle.codec.specs.Limits.{NoLarger};
 ghost use Rattle.wire.specs.Put.{putOf};
 ghost use Rattle.frame.specs.State.{Bounded};
-ghost use Rattle.log.specs.Loaded.{Tries, Within, Reads, Loads};
+ghost use Rattle.load.specs.Loading.{Tries, Within, Reads, Left, Loads};
 
 // Puts a frame's length and the frame into the list from `at` on.
 fn put_entry(frame: &[u8], list: &mut [u8], at: usize)
@@ -24,13 +26,20 @@ fn put_entry(frame: &[u8], list: &mut [u8], at: usize)
 }
 
 // Tries the frame at p; the next line starts at `next`.
-fn load_frame(p: Position, frame: &[u8], next: usize, list: &mut [u8], table: &mut [u8]) -> Turn
-    requires { ⌜ Bounded (p .state) ⌝ }
-    requires { ⌜ (1 ≤ length (now frame)) × (length (now frame) ≤ 99) × (p .length + length (now frame) + 1 ≤ length (now list)) × (p .line ≤ 8193) × (length (now table) ≡ 10240) ⌝ }
-    ensures { λ r. ⌜ Tries p (now (frame .entry)) next (now (list .entry)) (now (table .entry)) r (now (list .exit)) (now (table .exit)) ⌝ }
+fn load_frame(
+    m: model::Limits,
+    p: Position,
+    frame: &[u8],
+    next: usize,
+    list: &mut [u8],
+    store: &mut [u8],
+) -> Turn
+    requires { ⌜ NoLarger m limits × Bounded m (p .state) ⌝ }
+    requires { ⌜ (1 ≤ length (now frame)) × (length (now frame) ≤ 99) × (p .length + length (now frame) + 1 ≤ length (now list)) × (length (now list) ≡ limits .list) × (p .line ≤ limits .bytes + 1) × (length (now store) ≡ storeSize) ⌝ }
+    ensures { λ r. ⌜ Tries m p (now (frame .entry)) next (now (list .entry)) (now (store .entry)) r (now (list .exit)) (now (store .exit)) ⌝ }
 {
     let s = p.state;
-    let tried = admit(s, frame, table);
+    let tried = admit(m, s, frame, store);
     let step = tried.step;
     match step {
         Step::Next => {
@@ -56,10 +65,10 @@ fn load_frame(p: Position, frame: &[u8], next: usize, list: &mut [u8], table: &m
 }
 
 // Reads the line at p.
-fn load_line(log: &[u8], p: Position, list: &mut [u8], table: &mut [u8]) -> Turn
-    requires { ⌜ Within (now log) p ⌝ }
-    requires { ⌜ (p .at < length (now log)) × (length (now log) ≤ 8192) × (length (now list) ≡ 4096) × (length (now table) ≡ 10240) ⌝ }
-    ensures { λ r. ⌜ Reads (now (log .entry)) p (now (list .entry)) (now (table .entry)) r (now (list .exit)) (now (table .exit)) ⌝ }
+fn load_line(m: model::Limits, log: &[u8], p: Position, list: &mut [u8], store: &mut [u8]) -> Turn
+    requires { ⌜ NoLarger m limits × Within m (now log) p ⌝ }
+    requires { ⌜ (p .at < length (now log)) × (length (now log) ≤ m .bytes) × (length (now list) ≡ limits .list) × (length (now store) ≡ storeSize) ⌝ }
+    ensures { λ r. ⌜ Reads m (now (log .entry)) p (now (list .entry)) (now (store .entry)) r (now (list .exit)) (now (store .exit)) ⌝ }
 {
     let mut bytes = [0u8; 100];
     let at = p.at;
@@ -72,7 +81,7 @@ fn load_line(log: &[u8], p: Position, list: &mut [u8], table: &mut [u8]) -> Turn
                 };
             }
             let n = k - 1;
-            load_frame(p, &bytes[..n], next, list, table)
+            load_frame(m, p, &bytes[..n], next, list, store)
         }
         wire::Walk::Malformed => Turn {
             step: Step::Faulty(model::Fault::LineForm),
@@ -82,13 +91,15 @@ fn load_line(log: &[u8], p: Position, list: &mut [u8], table: &mut [u8]) -> Turn
 }
 
 // Reads the lines of a log that is not too long.
-pub(crate) fn load_lines(log: &[u8], list: &mut [u8], table: &mut [u8]) -> Loaded
-    requires { ⌜ (length (now log) ≤ 8192) × (length (now list) ≡ 4096) × (length (now table) ≡ 10240) ⌝ }
-    ensures { λ r. ⌜ Loads (r .outcome) (now (log .entry)) (r .state) (r .length) (now (list .exit)) (now (table .exit)) ⌝ }
+pub(crate) fn load_lines(m: model::Limits, log: &[u8], list: &mut [u8], store: &mut [u8]) -> Loaded
+    requires { ⌜ NoLarger m limits ⌝ }
+    requires { ⌜ (length (now log) ≤ m .bytes) × (length (now list) ≡ limits .list) × (length (now store) ≡ storeSize) ⌝ }
+    ensures { λ r. ⌜ Loads m (r .outcome) (now (log .entry)) (r .state) (r .length) (now (list .exit)) (now (store .exit)) ⌝ }
+    ensures { λ r. ⌜ Left (r .length) (now (list .entry)) (now (store .entry)) (now (list .exit)) (now (store .exit)) ⌝ }
 {
     let mut p = Position::first();
     while p.at < log.len() {
-        let turn = load_line(log, p, list, table);
+        let turn = load_line(m, log, p, list, store);
         let step = turn.step;
         match step {
             Step::Next => {
@@ -96,16 +107,16 @@ pub(crate) fn load_lines(log: &[u8], list: &mut [u8], table: &mut [u8]) -> Loade
                 p = next;
             }
             Step::Faulty(fault) => {
-                return Loaded::refused(fault, p.line);
+                return Loaded::refused(fault, p.line, p.length);
             }
         }
     }
     let s = p.state;
     if s.stations == 0 {
-        return Loaded::refused(model::Fault::Kind, 1);
+        return Loaded::refused(model::Fault::Kind, 1, p.length);
     }
     Loaded {
-        outcome: Outcome::Accepted,
+        outcome: Acceptance::Accepted,
         state: s,
         length: p.length,
     }

@@ -2,8 +2,8 @@
 use Rattle.model.specs.declared.Fault.the-variants.{Kind}
 use Rattle.frame.proofs.Steps.{turned, kind-unknown}
 use borrow.Author.Needs.{needs}
-use Rattle.log.proofs.admit.Statement.{statement}
-use Rattle.log.proofs.admit.Tie as tie
+use Rattle.load.proofs.admit.Statement.{statement}
+use Rattle.load.proofs.admit.Tie as tie
 
 shared-slice-read-kind : tie.Need-shared-slice-read-kind
 shared-slice-read-kind c = search needs
@@ -36,7 +36,7 @@ returns-3 : tie.Need-returns-3
 returns-3 c = c .question .ensures _
 
 returns-4 : tie.Need-returns-4
-returns-4 c = turned Kind _ (c .faulty .ensures) (c .before .before .before .before .before .pre .0) (λ r h. kind-unknown r _ (c .before .match .rest .0 .0 .1) (c .before .match .rest .0 .1) (c .before .match .rest .1))
+returns-4 c = turned Kind _ (c .faulty .ensures) (c .before .before .before .before .before .pre .0 .1) (λ r h. kind-unknown _ r _ (c .before .match .rest .0 .0 .1) (c .before .match .rest .0 .1) (c .before .match .rest .1))
 
 pub admit-spec : {M : Type 1} → statement M
 admit-spec =

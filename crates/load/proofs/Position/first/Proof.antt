@@ -2,8 +2,8 @@
 use mathlib.Core.Path.{ap}
 use Rattle.frame.specs.declared.State.{State}
 use borrow.Author.Needs.{needs}
-use Rattle.log.proofs.Position.first.Statement.{statement}
-use Rattle.log.proofs.Position.first.Tie as tie
+use Rattle.load.proofs.Position.first.Statement.{statement}
+use Rattle.load.proofs.Position.first.Tie as tie
 
 fresh-requires : tie.Need-fresh-requires
 fresh-requires c κs = search needs
