@@ -41,3 +41,18 @@ startsSize = (limits .events + 1) * limits .stations
 -- What atoms look at: a value for each station and for each event.
 abbrev pub factsSize : ℕ
 factsSize = limits .stations + limits .events
+
+-- The longest answer's frame: kind, start, number of cuts; at most 16 cuts; the rounds.
+abbrev pub frameSize : ℕ
+frameSize = 3 + 16 * limits .stations + 4
+
+-- The most that is printed: an answer line for each question.
+abbrev pub printedSize : ℕ
+printedSize = limits .questions * lineSize
+
+-- The most rounds of a pair of structures, events + 1 from each start; and of the pairs of one "and", of which there are at most 16.
+abbrev pub pairRounds : ℕ
+pairRounds = (limits .events + 1) * (limits .events + 1)
+
+abbrev pub stepRounds : ℕ
+stepRounds = 16 * pairRounds

@@ -57,6 +57,11 @@ impl Log {
     // What atoms look at: a value for each station and for each event.
     pub const FACTS: usize = Log::STATIONS + Log::EVENTS;
 
+    // The longest answer: its listed cuts, and its frame.
+    pub const CUTS: usize = 16 * Log::STATIONS;
+
+    pub const FRAME: usize = 3 + Log::CUTS + 4;
+
     // The limits of the definitions are those of the type.
     pub fn limits() -> Limits
         ensures { λ r. ⌜ r ≡ limits ⌝ }
