@@ -16,7 +16,7 @@ use Rattle.model.specs.Frames.{word}
 use Rattle.model.specs.Computation.{Computation, stations, count, clockOk, clock, value}
 use Rattle.model.specs.Reading.{Reading, check, stationOf, eventForm, extended, withEvent, admit, admitEvent, go, fault}
 use Rattle.codec.specs.Limits.{NoLarger}
-use Rattle.wire.specs.Put.{putOf}
+use Rattle.cells.specs.Put.{putOf}
 use Rattle.lattice.proofs.Histories.{eventCount-extended, count-same, count-other, value-old, value-new, clock-old, clock-new}
 use Rattle.frame.specs.declared.State.{State}
 use Rattle.frame.specs.declared.Step.the-variants.{Next}

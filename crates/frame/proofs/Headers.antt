@@ -18,7 +18,7 @@ use Rattle.model.specs.Computation.{stations, clock, value}
 use Rattle.model.specs.Reading.{Reading, headerForm, opened, withHeader, check, admit, admitHeader, go, fault}
 use Rattle.lattice.proofs.Histories.{length-opened, count-opened, eventCount-opened}
 use Rattle.codec.specs.Limits.{NoLarger}
-use Rattle.wire.specs.Put.{putOf}
+use Rattle.cells.specs.Put.{putOf}
 use Rattle.frame.specs.declared.State.{State}
 use Rattle.frame.specs.declared.Step.the-variants.{Next}
 use Rattle.frame.specs.Table.{slot, Stored}

@@ -6,8 +6,8 @@ use Prim.Native.Nat.{ℕ, _+_, _-_, _<_, _≤_}
 use native.Mathlib.Omega.{arith}
 use lib.ListN.{length, take, drop, getD, length-drop, List·getD-append}
 use lib.Seq.{take-at, drop-at, length-take-le, getD-take, getD-drop, getD-append-add, ext-getD}
-use Rattle.wire.specs.Put.{putOf}
-use Rattle.wire.proofs.Puts.{front-length, length-put}
+use Rattle.cells.specs.Put.{putOf}
+use Rattle.cells.proofs.Puts.{front-length, length-put}
 
 -- what is put leaves the bytes before it and the bytes after it
 module _ (d s : List ℕ) (at : ℕ) (fits : at + length s ≤ length d) where

@@ -1,6 +1,6 @@
 // The rule for the clock of an event, and the test of one event, which cuts share.
-use crate::bytes::wide;
 use crate::table::slot;
+use cells::wide;
 ghost use mathlib.Core.Path.{_≡_};
 ghost use Prim.Native.Nat.{ℕ, _+_, _≤_, _<_};
 ghost use lib.ListN.{length, take, drop, getD};

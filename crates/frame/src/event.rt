@@ -2,15 +2,15 @@
 use crate::Admitted;
 use crate::State;
 use crate::Step;
-use crate::bytes::wide;
 use crate::clock::clock_ok;
 use crate::table::slot;
+use cells::wide;
 ghost use mathlib.Core.Path.{_≡_};
 ghost use Prim.Native.Nat.{_+_, _≤_, _<_};
 ghost use lib.ListN.{length, getD};
 ghost use Rattle.model.specs.Limits.{limits, storeSize};
 ghost use Rattle.codec.specs.Limits.{NoLarger};
-ghost use Rattle.wire.specs.Put.{putOf};
+ghost use Rattle.cells.specs.Put.{putOf};
 ghost use Rattle.frame.specs.Table.{slot};
 ghost use Rattle.frame.specs.State.{afterEvent, Bounded, Admits};
 
@@ -24,7 +24,7 @@ fn add_event(s: State, j: usize, bytes: &[u8], store: &mut [u8]) -> State
     let counts = s.counts;
     let k = wide(counts[j]) + 1;
     let at = slot(j, k);
-    wire::put(bytes, store, at);
+    cells::put(bytes, store, at);
     s.with_event(j)
 }
 

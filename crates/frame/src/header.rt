@@ -2,14 +2,14 @@
 use crate::Admitted;
 use crate::State;
 use crate::Step;
-use crate::bytes::wide;
 use crate::table::slot;
+use cells::wide;
 ghost use mathlib.Core.Path.{_≡_};
 ghost use Prim.Native.Nat.{_+_, _*_, _≤_, _<_};
 ghost use lib.ListN.{length, getD};
 ghost use Rattle.model.specs.Limits.{limits, storeSize};
 ghost use Rattle.codec.specs.Limits.{NoLarger};
-ghost use Rattle.wire.specs.Put.{putOf};
+ghost use Rattle.cells.specs.Put.{putOf};
 ghost use Rattle.frame.specs.Table.{slot};
 ghost use Rattle.frame.specs.State.{Bounded, Admits};
 ghost use Rattle.frame.specs.Header.{Headed, opening, Open};
@@ -41,7 +41,7 @@ fn open_station(frame: &[u8], j: usize, store: &mut [u8])
     let mut cell = [0u8; model::Log::SLOT];
     cell[0] = frame[2 * j + 2];
     cell[1] = frame[2 * j + 3];
-    wire::put(&cell, store, at);
+    cells::put(&cell, store, at);
 }
 
 // Puts the first slots of n stations into the store.

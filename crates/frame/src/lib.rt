@@ -1,5 +1,4 @@
 // One frame of each kind, tried after what has been read into a state and a store.
-pub mod bytes;
 pub mod clock;
 pub mod event;
 pub mod header;

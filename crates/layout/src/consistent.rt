@@ -1,5 +1,5 @@
 // The test whether a cut is consistent.
-use frame::bytes::wide;
+use cells::wide;
 use frame::clock::known;
 ghost use mathlib.Core.Path.{_≡_};
 ghost use Prim.Native.Nat.{ℕ, _≤_};

@@ -1,5 +1,5 @@
 // The empty cut and the clocks of all events, as the cells of a structure.
-use frame::bytes::wide;
+use cells::wide;
 use frame::table::slot;
 ghost use mathlib.Core.Path.{_≡_};
 ghost use mathlib.Core.List.{_++_};

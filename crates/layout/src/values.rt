@@ -1,6 +1,6 @@
 // The values of all stations, before and after each event.
 use crate::bytes::number;
-use frame::bytes::wide;
+use cells::wide;
 use frame::table::slot;
 ghost use mathlib.Core.Path.{_≡_};
 ghost use mathlib.Core.List.{_++_};

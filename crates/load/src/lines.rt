@@ -11,7 +11,7 @@ ghost use Prim.Native.Nat.{_+_, _≤_, _<_};
 ghost use lib.ListN.{length};
 ghost use Rattle.model.specs.Limits.{limits, storeSize};
 ghost use Rattle.codec.specs.Limits.{NoLarger};
-ghost use Rattle.wire.specs.Put.{putOf};
+ghost use Rattle.cells.specs.Put.{putOf};
 ghost use Rattle.frame.specs.State.{Bounded};
 ghost use Rattle.load.specs.Loading.{Tries, Within, Reads, Left, Loads};
 
@@ -22,7 +22,7 @@ fn put_entry(frame: &[u8], list: &mut [u8], at: usize)
 {
     let n = frame.len();
     list[at] = n as u8;
-    wire::put(frame, list, at + 1);
+    cells::put(frame, list, at + 1);
 }
 
 // Tries the frame at p; the next line starts at `next`.

@@ -20,8 +20,8 @@ use Rattle.model.specs.Promise.{Rewritten, Reread}
 use Rattle.codec.proofs.Bytes.{Bytes}
 use Rattle.codec.proofs.Suited.{suitable}
 use Rattle.codec.proofs.Operations.{write-read, read-write}
-use Rattle.wire.specs.Put.{putOf}
-use Rattle.wire.proofs.Puts.{put-front}
+use Rattle.cells.specs.Put.{putOf}
+use Rattle.cells.proofs.Puts.{put-front}
 use Rattle.frame.specs.declared.State.{State}
 use Rattle.load.specs.declared.Acceptance.{Acceptance}
 use Rattle.load.specs.declared.Acceptance.the-variants.{Accepted, Refused}

@@ -14,8 +14,8 @@ use Rattle.model.specs.Frames.{framesOf, logOf}
 use Rattle.model.specs.Reading.{nothing, refused, readItems, readFrames, readList}
 use Rattle.model.specs.Reply.{number}
 use Rattle.model.specs.declared.Fault.{Fault}
-use Rattle.wire.specs.Put.{putOf}
-use Rattle.wire.proofs.Puts.{length-put, put-nil, put-put}
+use Rattle.cells.specs.Put.{putOf}
+use Rattle.cells.proofs.Puts.{length-put, put-nil, put-put}
 use Rattle.codec.specs.Limits.{Suitable}
 use Rattle.codec.proofs.Lines.{length-line}
 use Rattle.codec.proofs.Sizes.{sizes}

@@ -1,6 +1,6 @@
 // The frames of a frame list.
+use cells::wide;
 use frame::Step;
-use frame::bytes::wide;
 use load::Acceptance;
 use load::Position;
 use load::Turn;
@@ -11,7 +11,7 @@ ghost use lib.ListN.{length};
 ghost use Rattle.model.specs.Limits.{limits, storeSize};
 ghost use Rattle.model.specs.Frames.{framesOf, logOf};
 ghost use Rattle.codec.specs.Limits.{NoLarger};
-ghost use Rattle.wire.specs.Put.{putOf};
+ghost use Rattle.cells.specs.Put.{putOf};
 ghost use Rattle.log.specs.Entries.{formed, Formed, entries, Partly, Entered, Tried};
 
 // Is each length from 1 to 99, and no frame past the end?

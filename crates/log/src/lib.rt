@@ -12,7 +12,7 @@ ghost use Rattle.model.specs.Limits.{limits};
 ghost use Rattle.model.specs.Reply.{readReply, writeReply};
 ghost use Rattle.model.specs.Operations.{readOp, writeOp};
 ghost use Rattle.model.specs.Promise.{Rewritten, Reread};
-ghost use Rattle.wire.specs.Put.{putOf};
+ghost use Rattle.cells.specs.Put.{putOf};
 
 // Puts the frame list of a log at the front of the output, if that has room for any list; tells whether it has.
 fn put_list(list: &[u8], out: &mut [u8]) -> bool
@@ -21,7 +21,7 @@ fn put_list(list: &[u8], out: &mut [u8]) -> bool
     ensures { λ _. ⌜ now (out .exit) ≡ cond (leb (limits .list) (length (now (out .entry)))) (putOf (now (out .entry)) 0 (now (list .entry))) (now (out .entry)) ⌝ }
 {
     if Log::LIST <= out.len() {
-        wire::put(list, out, 0);
+        cells::put(list, out, 0);
     }
     Log::LIST <= out.len()
 }

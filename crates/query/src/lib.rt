@@ -41,14 +41,6 @@ enum Front {
     Formula(Size),
 }
 
-// What stands from k on.
-fn after(q: &[u8], k: usize) -> &[u8]
-    requires { ⌜ k ≤ length (now q) ⌝ }
-    ensures { λ r. ⌜ now r ≡ drop k (now (q .entry)) ⌝ }
-{
-    &q[k..]
-}
-
 // A number of two bytes.
 fn word(h: u8, l: u8) -> usize
     ensures { λ r. ⌜ r ≡ 256 * h + l ⌝ }
@@ -221,7 +213,7 @@ fn measure(q: &[u8], n: usize, sign: bool) -> Front
         return Front::Nothing;
     }
     let t = q[0];
-    let rest = after(q, 1);
+    let rest = cells::after(q, 1);
     match t {
         2 => negated(measure(rest, n, !sign)),
         3 | 4 => {
@@ -230,7 +222,7 @@ fn measure(q: &[u8], n: usize, sign: bool) -> Front
                 return Front::Nothing;
             };
             let k = y.used;
-            paired(t, sign, y, measure(after(rest, k), n, sign))
+            paired(t, sign, y, measure(cells::after(rest, k), n, sign))
         }
         5 | 6 => modal(t, sign, measure(rest, n, t == 5)),
         0 | 1 | 7..=255 => leaf(t, rest, n),

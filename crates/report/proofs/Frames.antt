@@ -9,8 +9,8 @@ use lib.ListN.{length, take, drop, set, length-set, length-take}
 use lib.Seq.{paste, take-paste, length-paste, sets-eq}
 use Rattle.model.specs.Bytes.{line}
 use Rattle.model.specs.Answer.{yesNo, fourBytes, answerLine}
-use Rattle.wire.specs.Put.{putOf}
-use Rattle.wire.proofs.Puts.{take-put, put-front}
+use Rattle.cells.specs.Put.{putOf}
+use Rattle.cells.proofs.Puts.{take-put, put-front}
 use Rattle.structure.specs.Layout.{cutsAt}
 use Rattle.report.specs.Written.{Written}
 use Rattle.structure.proofs.Listed.{length-cuts}

@@ -15,7 +15,7 @@ ghost use Rattle.model.specs.Rounds.{rounds as basisRounds};
 ghost use Rattle.model.specs.Answer.{notInside, tops, precedes, insert, sort, answer, yesNo, fourBytes, answerLine, refusalLine};
 ghost use Rattle.structure.specs.Layout.{cutsAt, standing};
 ghost use Rattle.structure.specs.Stations.{Stations};
-ghost use Rattle.wire.specs.Put.{putOf};
+ghost use Rattle.cells.specs.Put.{putOf};
 ghost use Rattle.report.specs.Cuts.{added};
 ghost use Rattle.report.specs.Stands.{Stands};
 ghost use Rattle.report.specs.Written.{Written};

@@ -8,8 +8,8 @@ use lib.ListN.{length, take, set, getD, length-append}
 use lib.Seq.{length-take-le, take-suc}
 use Rattle.model.specs.Bytes.{hex, checkByte, line}
 use Rattle.codec.proofs.Hex.{length-hex}
-use Rattle.wire.specs.Put.{putOf}
-use Rattle.wire.proofs.Puts.{put-one, put-put}
+use Rattle.cells.specs.Put.{putOf}
+use Rattle.cells.proofs.Puts.{put-one, put-put}
 
 pub hex-append : (a b : List ℕ) → hex (a ++ b) ≡ hex a ++ hex b
 unfolding hex

@@ -4,5 +4,4 @@ pub mod Fronts
 pub mod Refusals
 pub mod Walks
 pub mod Carried
-pub mod Puts
 pub mod Hexes

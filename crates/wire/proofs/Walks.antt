@@ -12,10 +12,10 @@ use Rattle.model.specs.Bytes.{more, linesOf, bytes}
 use Rattle.lattice.proofs.Sums.{sum-snoc}
 use Rattle.wire.specs.Pairs.{pairOf}
 use Rattle.wire.specs.Walked.{Framed, Spoilt, lead}
-use Rattle.wire.specs.Put.{putOf}
+use Rattle.cells.specs.Put.{putOf}
 use Rattle.wire.specs.declared.Pair.the-variants.{Byte, End, Broken}
 use Rattle.wire.proofs.Fronts.{Front, front-none, front-join, front-pair, lines-end, pushes, pushes-more, ahead}
-use Rattle.wire.proofs.Puts.{put-front}
+use Rattle.cells.proofs.Puts.{put-front}
 use Rattle.wire.proofs.Refusals.{Refused, refused-faulty, refused-many, refused-few, refused-broken}
 
 -- ---- the pairs at the front

@@ -7,7 +7,7 @@ ghost use Rattle.model.specs.Lists.{total};
 ghost use Rattle.model.specs.Bytes.{digit, hexDigit, hex, checkByte, line};
 ghost use Rattle.wire.specs.Pairs.{digitOf, pairOf};
 ghost use Rattle.wire.specs.Walked.{Walked, lead};
-ghost use Rattle.wire.specs.Put.{putOf};
+ghost use Rattle.cells.specs.Put.{putOf};
 
 // What a byte is as a digit.
 enum Digit {
@@ -92,18 +92,6 @@ pub fn walk_line(log: &[u8], at: usize, out: &mut [u8]) -> Walk
         }
     }
     Walk::Malformed
-}
-
-// Copies `src` into `dst` from `at` on.
-pub fn put(src: &[u8], dst: &mut [u8], at: usize)
-    requires { ⌜ at + length (now src) ≤ length (now dst) ⌝ }
-    ensures { λ _. ⌜ now (dst .exit) ≡ putOf (now (dst .entry)) at (now (src .entry)) ⌝ }
-{
-    let mut k = 0;
-    while k < src.len() {
-        dst[at + k] = src[k];
-        k += 1;
-    }
 }
 
 // The digit of a number below 16.

@@ -7,7 +7,7 @@ use lib.Dec.{leb}
 use lib.ListN.{length}
 use borrow.Author.Tests.{le-leb, lt-leb}
 use Rattle.model.specs.Limits.{limits}
-use Rattle.wire.specs.Put.{putOf}
+use Rattle.cells.specs.Put.{putOf}
 use borrow.Author.Needs.{needs}
 use Rattle.log.proofs.put_list.Statement.{statement}
 use Rattle.log.proofs.put_list.Tie as tie

@@ -15,7 +15,7 @@ use Rattle.query.proofs.Measured as laws
 use Rattle.query.proofs.measure.Reads as measure
 use Rattle.query.proofs.measure.Kinds as measure-kinds
 use Rattle.query.proofs.+measure.Lts-measure as measure-lts
-use Rattle.query.proofs.after.Reads as after-reads
+use Rattle.cells.proofs.after.Reads as after-reads
 use Rattle.query.proofs.leaf.Reads as leaf-reads
 use Rattle.query.proofs.modal.Reads as modal-reads
 use Rattle.query.proofs.negated.Reads as negated-reads

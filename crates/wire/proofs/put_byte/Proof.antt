@@ -6,8 +6,8 @@ use Prim.Native.Nat.{ℕ}
 use native.Mathlib.Omega.{arith}
 use lib.ListN.{length-set}
 use Rattle.model.specs.Bytes.{hex}
-use Rattle.wire.specs.Put.{putOf}
-use Rattle.wire.proofs.Puts.{put-two}
+use Rattle.cells.specs.Put.{putOf}
+use Rattle.cells.proofs.Puts.{put-two}
 use Rattle.wire.proofs.put_byte.Statement.{statement}
 use Rattle.wire.proofs.put_byte.Tie as tie
 

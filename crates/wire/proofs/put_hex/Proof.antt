@@ -7,8 +7,8 @@ use native.Mathlib.Omega.{arith}
 use lib.ListN.{length, take, getD}
 use lib.Seq.{take-all}
 use Rattle.model.specs.Bytes.{hex}
-use Rattle.wire.specs.Put.{putOf}
-use Rattle.wire.proofs.Puts.{put-nil}
+use Rattle.cells.specs.Put.{putOf}
+use Rattle.cells.proofs.Puts.{put-nil}
 use Rattle.wire.proofs.Hexes.{put-hex-step}
 use Rattle.wire.proofs.put_hex.Statement.{statement}
 use Rattle.wire.proofs.put_hex.Tie as tie

@@ -1,7 +1,7 @@
 -- The slot of the next event lies within the table, since the state has fewer events than it may have. Assumes nothing.
 use mathlib.Core.Path.{ap, _∙_}
 use Prim.Native.Nat.{ℕ, _+_}
-use Rattle.wire.specs.Put.{putOf}
+use Rattle.cells.specs.Put.{putOf}
 use Rattle.frame.specs.Table.{slot}
 use native.Mathlib.Omega.{arith}
 use borrow.Author.Needs.{needs}

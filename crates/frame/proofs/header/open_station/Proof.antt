@@ -1,7 +1,7 @@
 -- The bytes of the slot are put at its place. Assumes nothing.
 use mathlib.Core.Path.{ap, _∙_}
 use Prim.Native.Nat.{ℕ}
-use Rattle.wire.specs.Put.{putOf}
+use Rattle.cells.specs.Put.{putOf}
 use Rattle.frame.specs.Header.{opening}
 use borrow.Author.Needs.{needs}
 use Rattle.frame.proofs.header.open_station.Statement.{statement}

@@ -2,7 +2,7 @@
 use mathlib.Core.Path.{_∙_}
 use native.Mathlib.Omega.{arith}
 use lib.ListN.{length-set}
-use Rattle.wire.proofs.Puts.{put-cons}
+use Rattle.cells.proofs.Puts.{put-cons}
 use borrow.Author.Needs.{needs}
 use Rattle.load.proofs.lines.put_entry.Statement.{statement}
 use Rattle.load.proofs.lines.put_entry.Tie as tie

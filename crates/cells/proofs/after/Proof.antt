@@ -1,10 +1,8 @@
--- `query::after` meets its contract: a part up to the end is what is left. Assumes nothing.
-use native.Mathlib.Nat.{le-of-eq}
-use lib.ListN.{length-drop}
-use lib.Seq.{take-all}
+-- A part that goes to the end is what is left.
+use Rattle.cells.proofs.Parts.{drop-whole}
 use borrow.Author.Needs.{needs}
-use Rattle.query.proofs.after.Statement.{statement}
-use Rattle.query.proofs.after.Tie as tie
+use Rattle.cells.proofs.after.Statement.{statement}
+use Rattle.cells.proofs.after.Tie as tie
 
 sub-result : tie.Need-sub-result
 sub-result c = search needs
@@ -16,7 +14,7 @@ part-result-end : tie.Need-part-result-end
 part-result-end c = search needs
 
 returns : tie.Need-returns
-returns c = take-all _ _ (le-of-eq (length-drop (c .before .args .k) (c .before .args .q .now)))
+returns c = drop-whole (c .before .args .k) (c .before .args .q .now)
 
 pub after-spec : {M : Type 1} → statement M
 after-spec = tie.close (tie.spec sub-result part-result-start part-result-end returns)
