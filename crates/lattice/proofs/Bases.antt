@@ -1,14 +1,14 @@
 -- A basis of a set of cuts, and what is built of one.
 use mathlib.Core.Path.{_≡_, refl, subst}
 use mathlib.Core.Logic.{_↔_, _⊎_, inl, inr}
-use Prim.Native.Nat.{ℕ}
+use Prim.Native.Nat.{ℕ, _≤_}
 use mathlib.Core.Bool.{Bool, true, false, cond}
 use mathlib.Core.Option.{Option, none, some}
 use mathlib.Core.List.{List, [], _∷_, _++_}
 use Rattle.model.specs.Lists.{Some}
 use Rattle.model.specs.Lists.Some.{here, there}
 use Rattle.model.specs.Cut.{Cut, _⊑_, insideAny, join, meet, empty}
-use Rattle.model.specs.Computation.{Computation, Consistent, stations}
+use Rattle.model.specs.Computation.{Computation, Consistent, stations, count, clock}
 use Rattle.model.specs.Structure.{Structure, row, raise, inSet, belongs, belongsAny, greatest, keep, build, buildOn}
 use Rattle.lattice.proofs.Valid.{Valid}
 use Rattle.lattice.proofs.Tests.{clash}
@@ -34,6 +34,8 @@ pub record Good (K : Computation) (S : Structure) : Type 0 where
   pub above : (e : Cut) → In K S e → e ⊑ greatest S
   -- the least cut and every row that is there are in the set
   pub rows-in : (j k : ℕ) (d : Cut) → row S j k ≡ some d → In K S d
+  -- a row is the least cut of the set that holds its event, at 0 the least cut
+  pub rows-least : (j k : ℕ) → k ≤ count K j → Least (In K S) (λ e. clock K j k ⊑ e) (row S j k)
   -- no bar contains the greatest cut
   pub free : insideAny (greatest S) (S .bars) ≡ false
 
@@ -45,6 +47,7 @@ good K ok {P} reg S rep free = record {
   top = from (greatest S) (greatest-in K ok reg S rep);
   above = λ e u. greatest-above K ok reg S rep e (to e u);
   rows-in = λ j k d e. from d (row-in K ok reg S rep j k d e);
+  rows-least = λ j k h. least-iff (λ e. (from e, to e)) (λ e _. (λ u. u, λ u. u)) (row S j k) (rep .rows-least j k h);
   free = free;
 }
   where

@@ -11,6 +11,7 @@ pub mod Structures
 pub mod Sets
 pub mod Bases
 pub mod Intersection
+pub mod Shortcuts
 pub mod Steps
 pub mod Atoms
 pub mod Theorem
