@@ -12,6 +12,7 @@ pub mod Sets
 pub mod Bases
 pub mod Intersection
 pub mod Shortcuts
+pub mod Joins
 pub mod Steps
 pub mod Atoms
 pub mod Theorem

@@ -31,7 +31,8 @@ pub record Regular (K : Computation) (P : Cut → Type 0) : Type 0 where
   pub consistent : (c : Cut) → P c → Consistent K c
   pub join-in : (c d : Cut) → P c → P d → P (join c d)
 
-least-join : {P Q₁ Q₂ Q : Cut → Type 0} → ((c d : Cut) → P c → P d → P (join c d)) → ((e : Cut) → P e → Q e → Q₁ e × Q₂ e)
+-- What is least for two demands, joined, is least for both.
+pub least-join : {P Q₁ Q₂ Q : Cut → Type 0} → ((c d : Cut) → P c → P d → P (join c d)) → ((e : Cut) → P e → Q e → Q₁ e × Q₂ e)
     → ((c d : Cut) → Q₁ c → Q₂ d → Q (join c d)) → (o₁ o₂ : Option Cut) → Least P Q₁ o₁ → Least P Q₂ o₂ → Least P Q (joined o₁ o₂)
 unfolding joined
 least-join pj split both none o₂ h k = λ e u v. h e u (split e u v .0)
