@@ -21,6 +21,7 @@ pub mod Order
 pub mod Sorting
 pub mod Maximal
 pub mod Built
+pub mod OfStation
 pub mod Size
 pub mod Shape
 pub mod Weights

@@ -39,7 +39,7 @@ module _ (K : Computation) (ok : Valid K) where
       go false e = λ d u v. clash (⊑-inside c g (trans⊑ c d g v (u .1))) e
 
 -- The first number that passes a test.
-abbrev First : (ℕ → Bool) → ℕ → ℕ → Option ℕ → Type 0
+abbrev pub First : (ℕ → Bool) → ℕ → ℕ → Option ℕ → Type 0
 First p m k none = (i : ℕ) → k ≤ i → i < k + m → p i ≡ true → ⊥
 First p m k (some i) = (k ≤ i) × (i < k + m) × (p i ≡ true) × ((i′ : ℕ) → k ≤ i′ → p i′ ≡ true → i ≤ i′)
 
@@ -55,7 +55,7 @@ first-next p m k e (some i) h = (omega (arith, h .0), omega (arith, h .1), h .2,
     skip i′ a q (yes s) = clash q (rw s e)
     skip i′ a q (no s) = h .3 i′ (omega arith) q
 
-next-first : (p : ℕ → Bool) (m k : ℕ) → First p m k (next p m k)
+pub next-first : (p : ℕ → Bool) (m k : ℕ) → First p m k (next p m k)
 unfolding next
 next-first p zero k = λ i a b q. omega arith
 next-first p (suc m) k = go (p k) refl (next-first p m (suc k))

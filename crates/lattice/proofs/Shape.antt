@@ -28,8 +28,8 @@ module _ (K : Computation) (ok : Valid K) where
   -- Of this shape are all structures of a basis.
   pub basis-shaped : (p : Normal) → All (Shaped K) (basis K p)
   unfolding basis lowered barred intersect
-  basis-shaped (literal b a) = build-all K (raiseAtom K b a) [] (λ l. record { rows-are = same-lengths _ (K .events); bars-are = done })
-  basis-shaped (both p q) = pairs-all K (λ S T a b. build-all K _ (S .bars ++ T .bars) (λ l. record { rows-are = same-lengths _ (K .events); bars-are = all-append (a .bars-are) (b .bars-are) })) (basis-shaped p) (basis-shaped q)
+  basis-shaped (literal b a) = build-all K (raiseAtom K b a) [] (λ l _. record { rows-are = same-lengths _ (K .events); bars-are = done })
+  basis-shaped (both p q) = pairs-all K (λ S T a b. build-all K _ (S .bars ++ T .bars) (λ l _. record { rows-are = same-lengths _ (K .events); bars-are = all-append (a .bars-are) (b .bars-are) })) (basis-shaped p) (basis-shaped q)
   basis-shaped (either p q) = all-append (basis-shaped p) (basis-shaped q)
-  basis-shaped (possible p) = each-all (λ S. build K (below (greatest S)) []) (λ S a. build-all K (below (greatest S)) [] (λ l. record { rows-are = same-lengths _ (K .events); bars-are = done })) (basis-shaped p)
-  basis-shaped (impossible p) = build-all K some (map greatest (basis K p)) (λ l. record { rows-are = same-lengths _ (K .events); bars-are = all-to-map greatest (all-map (λ S g. g .top .0) (basis-sat K ok p .all-good)) })
+  basis-shaped (possible p) = each-all (λ S. build K (below (greatest S)) []) (λ S a. build-all K (below (greatest S)) [] (λ l _. record { rows-are = same-lengths _ (K .events); bars-are = done })) (basis-shaped p)
+  basis-shaped (impossible p) = build-all K some (map greatest (basis K p)) (λ l _. record { rows-are = same-lengths _ (K .events); bars-are = all-to-map greatest (all-map (λ S g. g .top .0) (basis-sat K ok p .all-good)) })

@@ -79,11 +79,11 @@ Bars n S = length (S .bars) ≤ n
 
 bars-pairs : (K : Computation) (m n : ℕ) {L R : List Structure} → All (Bars m) L → All (Bars n) R → All (Bars (m + n)) (pairs K L R)
 unfolding intersect
-bars-pairs K m n = pairs-all K (λ S T p q. build-all K _ (S .bars ++ T .bars) (λ l. omega (arith, length-append (S .bars) (T .bars))))
+bars-pairs K m n = pairs-all K (λ S T p q. build-all K _ (S .bars ++ T .bars) (λ l _. omega (arith, length-append (S .bars) (T .bars))))
 
 bars-lowered : (K : Computation) (n : ℕ) {L : List Structure} → All (Bars n) L → All (Bars 0) (lowered K L)
 unfolding lowered
-bars-lowered K n = each-all (λ S. build K (below (greatest S)) []) (λ S p. build-all K (below (greatest S)) [] (λ l. omega arith))
+bars-lowered K n = each-all (λ S. build K (below (greatest S)) []) (λ S p. build-all K (below (greatest S)) [] (λ l _. omega arith))
 
 bars-up : (m n : ℕ) → m ≤ n → {L : List Structure} → All (Bars m) L → All (Bars n) L
 bars-up m n h = all-map (λ S p. le-trans p h)
@@ -91,11 +91,11 @@ bars-up m n h = all-map (λ S p. le-trans p h)
 -- No structure of a basis has more bars than the bar count.
 pub basis-bars : (K : Computation) (p : Normal) → All (Bars (bars p)) (basis K p)
 unfolding basis bars barred
-basis-bars K (literal b a) = build-all K (raiseAtom K b a) [] (λ l. omega arith)
+basis-bars K (literal b a) = build-all K (raiseAtom K b a) [] (λ l _. omega arith)
 basis-bars K (both p q) = bars-pairs K (bars p) (bars q) (basis-bars K p) (basis-bars K q)
 basis-bars K (either p q) = all-append (bars-up (bars p) (max (bars p) (bars q)) (omega arith) (basis-bars K p)) (bars-up (bars q) (max (bars p) (bars q)) (omega arith) (basis-bars K q))
 basis-bars K (possible p) = bars-lowered K (bars p) (basis-bars K p)
-basis-bars K (impossible p) = build-all K some (map greatest (basis K p)) (λ l. rw length-map (basis-width K p))
+basis-bars K (impossible p) = build-all K some (map greatest (basis K p)) (λ l _. rw length-map (basis-width K p))
 
 -- The same for the structure at i.
 pub basis-bars-at : (K : Computation) (p : Normal) (d : Structure) (i : ℕ) → i < length (basis K p) → length ((getD (basis K p) i d) .bars) ≤ bars p
