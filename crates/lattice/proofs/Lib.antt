@@ -13,6 +13,7 @@ pub mod Bases
 pub mod Intersection
 pub mod Shortcuts
 pub mod Joins
+pub mod Starts
 pub mod Steps
 pub mod Atoms
 pub mod Theorem

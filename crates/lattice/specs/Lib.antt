@@ -1,2 +1,3 @@
 pub mod Signed
 pub mod OfStation
+pub mod Starts
