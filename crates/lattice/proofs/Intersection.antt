@@ -81,6 +81,10 @@ module _ (K : Computation) (S T : Structure) (gs : Good K S) (gt : Good K T) whe
       go (yes t) = clash (⊑-inside d c (total-back c d h t)) q
       go (no t) = omega arith
 
+  -- A round that comes to a cut comes to one of the right set; if nothing changed, it is one of the left set too.
+  pub round-in : (c d : Cut) → Consistent K c → round S T c ≡ some d → In K T d × (d ≡ c → In K S c)
+  round-in c d p e = let r : Rounded c (some d) = rw e at (round-ok c p) in (r .0, λ z. r .2 (subst (λ x. d ⊑ x) z (refl⊑ d)))
+
   -- A round that comes to a cut comes to a consistent one that contains c; with more events, unless nothing changed.
   pub round-step : (c d : Cut) → Consistent K c → round S T c ≡ some d → Consistent K d × (c ⊑ d) × ((d ≡ c) ⊎ (total c < total d))
   round-step c d p e = (r .0 .0, r .1, go (yes-or-no (inside d c)))

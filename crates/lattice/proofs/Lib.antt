@@ -23,6 +23,7 @@ pub mod Sorting
 pub mod Maximal
 pub mod Built
 pub mod OfStation
+pub mod Chains
 pub mod Size
 pub mod Shape
 pub mod Weights

@@ -108,11 +108,11 @@ module _ (K : Computation) (S T : Structure) (gs : Good K S) (gt : Good K T) whe
   unfolding run after onward
   run-none m c e = rw e refl
 
-  round-none : (c : Cut) → raise S c ≡ none → round S T c ≡ none
+  pub round-none : (c : Cut) → raise S c ≡ none → round S T c ≡ none
   unfolding round thenRight
   round-none c e = rw e refl
 
-  round-is : (c x : Cut) (o : Option Cut) → raise S c ≡ some x → raise T x ≡ o → round S T c ≡ o
+  pub round-is : (c x : Cut) (o : Option Cut) → raise S c ≡ some x → raise T x ≡ o → round S T c ≡ o
   unfolding round thenRight
   round-is c x o e f = rw (e, f) refl
 

@@ -1,3 +1,4 @@
 pub mod Signed
 pub mod OfStation
 pub mod Starts
+pub mod Chains
