@@ -10,7 +10,7 @@ use Rattle.model.specs.Lists.{sum, total}
 use Rattle.model.specs.Cut.{Cut, join}
 use Rattle.model.specs.Structure.{joinRow, joinRows, greatest}
 use Rattle.structure.specs.Layout.{decoded, rowsAt, stationsAt, structureAt}
-use Rattle.structure.proofs.Cuts.{join-comm, join-assoc}
+use Rattle.cells.proofs.Cuts.{join-comm, join-assoc}
 use Rattle.structure.proofs.Rows.{is-none, is-some, first-at}
 use Rattle.structure.proofs.Places.{rows-add, one-more, row-fits}
 

@@ -1,7 +1,4 @@
 -- Laws that the proofs share, and those that other crates use.
-pub mod Parts
-pub mod Cuts
-pub mod Stores
 pub mod Rows
 pub mod Places
 pub mod Raising
@@ -9,4 +6,3 @@ pub mod Joining
 pub mod Bars
 pub mod Listed
 pub mod Standing
-pub mod FromLaid

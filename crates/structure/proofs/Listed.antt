@@ -7,7 +7,7 @@ use mathlib.Core.List.{List, [], _∷_, _++_}
 use lib.ListN.{length, take, drop}
 use lib.Seq.{drop-drop}
 use Rattle.structure.specs.Layout.{cutsAt}
-use Rattle.structure.proofs.Parts.{front-same, part-same}
+use Rattle.cells.proofs.Parts.{front-same, part-same}
 
 module _ (n : ℕ) where
   pub length-cuts : (k : ℕ) (l : List ℕ) → length (cutsAt n k l) ≡ k

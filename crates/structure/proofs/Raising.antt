@@ -1,22 +1,23 @@
 -- Laws of raising: what one station adds, the loop over the stations, and that bars play no part.
 use mathlib.Core.Path.{_≡_, refl, sym, ap, ap₂, _∙_}
-use Prim.Native.Nat.{ℕ, zero, suc, _+_, _-_, _*_, _≤_, _<_}
+use Prim.Native.Nat.{ℕ, zero, suc, _+_, _*_, _≤_, _<_}
 use native.Mathlib.Nat.{mul-le-mul-right}
 use native.Mathlib.Numerals.{add-one}
 use native.Mathlib.Omega.{arith}
 use mathlib.Core.List.{List}
 use mathlib.Core.Option.{Option, none, some}
 use lib.ListN.{length, getD, take, drop, replicate, length-drop}
-use lib.Seq.{take-take, drop-drop, length-take-le, getD-take}
+use lib.Seq.{drop-drop, length-take-le, getD-take}
 use Rattle.model.specs.Lists.{total}
 use Rattle.model.specs.Cut.{Cut, join}
 use Rattle.model.specs.Structure.{Structure, row, joined, raiseBy, raise}
-use Rattle.lattice.proofs.Sums.{total-suc, total-take}
+use Rattle.lattice.proofs.Sums.{total-take}
 use Rattle.structure.specs.Layout.{decoded, structureAt, placed, cells}
-use Rattle.structure.specs.Stations.{Stations}
-use Rattle.structure.proofs.Cuts.{join-self, join-swap, join-zeros}
+use Rattle.structure.specs.declared.Shape.{Shape}
+use Rattle.structure.specs.Shaped.{Shaped}
+use Rattle.cells.proofs.Cuts.{join-self, join-swap, join-zeros}
 use Rattle.structure.proofs.Rows.{is-none, is-some, decoded-rows, first-at}
-use Rattle.structure.proofs.Places.{row-place, row-past, next-fits}
+use Rattle.structure.proofs.Places.{row-place, row-past, next-fits, cells-are}
 
 joined-none : (x : Option Cut) → joined x none ≡ none
 unfolding joined
@@ -65,7 +66,8 @@ unfolding raise
 raise-bars n counts w bs bt c = raise-by-bars n counts w bs bt c (length c)
 
 -- What station j adds to acc, of which a cut has `count` events.
-module _ (n : ℕ) (counts offs w : List ℕ) (at j count : ℕ) (acc : List ℕ) (s : Stations n counts offs) (h : j < n) (a8 : length acc ≡ 8) where
+module _ (n : ℕ) (counts offs w : List ℕ) (at j count : ℕ) (acc : List ℕ) (z : 0 < n) (few : n ≤ 8) (o : getD offs j 0 ≡ total (take j (take n counts)))
+    (h : j < n) (a8 : length acc ≡ 8) where
   j-count : getD (take n counts) j 0 ≡ getD counts j 0
   j-count = getD-take n counts j 0 h
 
@@ -75,7 +77,7 @@ module _ (n : ℕ) (counts offs w : List ℕ) (at j count : ℕ) (acc : List ℕ
 
   pub station-none : getD counts j 0 < count → (out : List ℕ) → out ≡ replicate 8 255 → (bs : List ℕ) (x : Option Cut) → decoded (take n out) ≡ joined x (row (placed n counts w at bs) j count)
   station-none l out e bs x =
-      ap (λ (c : List ℕ). decoded (take n c)) e ∙ is-none n (replicate 8 255) (s .some-station) refl
+      ap (λ (c : List ℕ). decoded (take n c)) e ∙ is-none n (replicate 8 255) z refl
       ∙ sym (ap (joined x) (row-past n (take n counts) (drop at w) bs j count (rw j-count l)) ∙ joined-none x)
 
   -- Each row has m cells from its first on.
@@ -83,12 +85,12 @@ module _ (n : ℕ) (counts offs w : List ℕ) (at j count : ℕ) (acc : List ℕ
     pub station-room : at + k * n + m ≤ length w
     station-room =
         let t : total (take j (take n counts)) + getD (take n counts) j 0 ≤ total (take n counts) = total-take (take n counts) j in
-        let q : k ≤ total (take n counts) = omega (arith, s .offs-are j h, j-count) in
+        let q : k ≤ total (take n counts) = omega (arith, o, j-count) in
         omega (arith, mul-le-mul-right n q)
 
     row-is : (count ≡ 0 → ⊥) → (bs : List ℕ) → row (placed n counts w at bs) j count ≡ decoded (take n (drop (at + k * n) w))
     row-is f bs =
-        let q : total (take j (take n counts)) + count ≡ k = omega (arith, s .offs-are j h) in
+        let q : total (take j (take n counts)) + count ≡ k = omega (arith, o) in
         row-place n (take n counts) (drop at w) bs j count f (rw j-count l)
         ∙ ap (λ (x : List ℕ). decoded (take n x)) (ap (λ (t : ℕ). drop (t * n) (drop at w)) q ∙ drop-drop (k * n) at w)
 
@@ -96,7 +98,7 @@ module _ (n : ℕ) (counts offs w : List ℕ) (at j count : ℕ) (acc : List ℕ
         → take n out ≡ join (take n acc) (take n (drop (at + k * n) w)) → (bs : List ℕ)
         → decoded (take n out) ≡ joined (decoded (take n acc)) (row (placed n counts w at bs) j count)
     station-joins b f p q out g bs =
-        ap decoded g ∙ decoded-rows n acc (drop (at + k * n) w) (s .some-station) (omega (arith, s .few-stations)) long p (rw (first-at w (at + k * n)) q)
+        ap decoded g ∙ decoded-rows n acc (drop (at + k * n) w) z (omega arith) long p (rw (first-at w (at + k * n)) q)
         ∙ ap (joined (decoded (take n acc))) (sym (row-is f bs))
       where
         long : n ≤ length (drop (at + k * n) w)
@@ -106,6 +108,10 @@ module _ (n : ℕ) (counts offs w : List ℕ) (at j count : ℕ) (acc : List ℕ
 pub cells-room : (n : ℕ) (counts : List ℕ) (at l : ℕ) → at + cells n counts ≤ l → at + total counts * n + n ≤ l
 cells-room n counts at l room = omega (arith, next-fits (total counts) (suc (total counts)) n (omega arith))
 
+-- The same of a structure of a shape.
+pub shape-room : (x : Shape) → Shaped x → (at l : ℕ) → at + (x .e + 1) * x .n ≤ l → at + total (take (x .n) (x .counts)) * x .n + x .n ≤ l
+shape-room x s at l room = cells-room (x .n) (take (x .n) (x .counts)) at l (rw (cells-are (x .n) (x .e) (take (x .n) (x .counts)) (s .events-are)) room)
+
 -- Before the first station: the least cut.
 pub raise-start : (n : ℕ) (counts : List ℕ) (at : ℕ) (w cut acc : List ℕ) → 0 < n → n ≤ 8 → at + n ≤ length w
     → (getD w at 0 ≡ 255 → ⊥) → take n acc ≡ join (take n (replicate 8 0)) (take n (drop at w)) → (bs : List ℕ)
@@ -114,15 +120,6 @@ unfolding raiseBy
 raise-start n counts at w cut acc z h room f e bs =
     ap decoded (e ∙ join-zeros n 8 (drop at w) h (rw length-drop (omega arith)))
     ∙ is-some n (drop at w) z (λ g. f (sym (first-at w at) ∙ g))
-
--- The events of all stations, from what is known of the last.
-pub total-last : (n : ℕ) (counts offs : List ℕ) → Stations n counts offs → total (take n counts) ≡ getD offs (n - 1) 0 + getD counts (n - 1) 0
-total-last n counts offs s =
-    let z : 0 < n = s .some-station in
-    let q : n ≡ suc (n - 1) = omega arith in
-    ap total (sym (take-take n n counts (omega arith)) ∙ ap (λ (x : ℕ). take x (take n counts)) q)
-    ∙ total-suc (take n counts) (n - 1)
-    ∙ ap₂ (λ (x y : ℕ). x + y) (sym (s .offs-are (n - 1) (omega arith))) (getD-take n counts (n - 1) 0 (omega arith))
 
 -- After the last.
 pub raise-finish : (n : ℕ) (S : Structure) (cut acc out : List ℕ) → n ≤ length cut → (j : ℕ) → j ≡ n → out ≡ acc → decoded (take n acc) ≡ raiseBy S (take n cut) j

@@ -12,7 +12,7 @@ use Rattle.model.specs.Lists.{sum, total}
 use Rattle.model.specs.Cut.{Cut}
 use Rattle.model.specs.Structure.{Structure}
 use Rattle.structure.specs.Layout.{rowsAt, stationsAt, barsAt, structureAt, cells, barCells, standing}
-use Rattle.structure.proofs.Parts.{front-same, part-same, cell-same}
+use Rattle.cells.proofs.Parts.{front-same, part-same, cell-same}
 
 behind : (n m : ℕ) → n + m * n ≡ suc m * n
 behind n m = omega (arith, suc-mul m n)

@@ -1,4 +1,4 @@
 pub mod Layout
-pub mod Stations
+pub mod Shaped
 pub mod Added
 pub mod Laid

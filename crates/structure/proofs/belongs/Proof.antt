@@ -21,8 +21,8 @@ returns : tie.Need-returns
 returns c =
     let s = c .before .before .before .before .before .before in
     let a = s .args in
-    let S : Structure = structureAt (a .n) (take (a .n) (a .counts .now)) (drop (a .at) (a .ws .now)) (drop (a .bar) (a .bs .now)) in
-    bars.none-outside (a .n) S (take (a .n) (a .cut .now)) (c .before .before .raise .last .1 .1 .1 .1 .1 .1 .0) (s .pre .0 .some-station) (c .before .before .raise .ensures (drop (a .bar) (a .bs .now))) (c .if1 .taken)
+    let S : Structure = structureAt (a .x .n) (take (a .x .n) (a .x .counts)) (drop (a .at) (a .ws .now)) (drop (a .bar) (a .bs .now)) in
+    bars.none-outside (a .x .n) S (take (a .x .n) (a .cut .now)) (c .before .before .raise .last .1 .1 .1 .1 .0) (s .pre .0 .some-station) (c .before .before .raise .ensures (drop (a .bar) (a .bs .now))) (c .if1 .taken)
 
 slice-aggregate-contained : tie.Need-slice-aggregate-contained
 slice-aggregate-contained c = search needs
@@ -34,9 +34,9 @@ returns-2 : tie.Need-returns-2
 returns-2 c =
     let s = c .before .before .before .before .before .before .before .before .before .before in
     let a = s .args in
-    let S : Structure = structureAt (a .n) (take (a .n) (a .counts .now)) (drop (a .at) (a .ws .now)) (drop (a .bar) (a .bs .now)) in
+    let S : Structure = structureAt (a .x .n) (take (a .x .n) (a .x .counts)) (drop (a .at) (a .ws .now)) (drop (a .bar) (a .bs .now)) in
     let r = c .before .before .before .before .before .before .raise in
-    bars.raised-outside (a .n) S (take (a .n) (a .cut .now)) (r .last .1 .1 .1 .1 .1 .1 .0) (s .pre .0 .some-station) (r .ensures (drop (a .bar) (a .bs .now))) (c .before .before .before .before .if1 .left)
+    bars.raised-outside (a .x .n) S (take (a .x .n) (a .cut .now)) (r .last .1 .1 .1 .1 .0) (s .pre .0 .some-station) (r .ensures (drop (a .bar) (a .bs .now))) (c .before .before .before .before .if1 .left)
     (c .before .contained .result) (c .before .contained .ensures) (not-true (c .before .contained .result) (c .if2 .taken))
 
 barred-requires : tie.Need-barred-requires
@@ -46,9 +46,9 @@ returns-3 : tie.Need-returns-3
 returns-3 c =
     let s = c .before .before .before .before .before .before .before .before .before .before .before .before in
     let a = s .args in
-    let S : Structure = structureAt (a .n) (take (a .n) (a .counts .now)) (drop (a .at) (a .ws .now)) (drop (a .bar) (a .bs .now)) in
+    let S : Structure = structureAt (a .x .n) (take (a .x .n) (a .x .counts)) (drop (a .at) (a .ws .now)) (drop (a .bar) (a .bs .now)) in
     let r = c .before .before .before .before .before .before .before .before .raise in
-    bars.raised-inside (a .n) S (take (a .n) (a .cut .now)) (r .last .1 .1 .1 .1 .1 .1 .0) (s .pre .0 .some-station) (r .ensures (drop (a .bar) (a .bs .now))) (c .before .before .before .before .before .before .if1 .left)
+    bars.raised-inside (a .x .n) S (take (a .x .n) (a .cut .now)) (r .last .1 .1 .1 .1 .0) (s .pre .0 .some-station) (r .ensures (drop (a .bar) (a .bs .now))) (c .before .before .before .before .before .before .if1 .left)
     (c .before .before .before .contained .result) (c .before .before .before .contained .ensures) (not-false (c .before .before .before .contained .result) (c .before .before .if2 .left)) (c .barred .result) (c .barred .ensures)
 
 pub belongs-spec : {M : Type 1} → statement M

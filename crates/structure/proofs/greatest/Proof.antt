@@ -3,7 +3,7 @@ use mathlib.Core.Path.{_≡_, sym, ap, _∙_}
 use Prim.Native.Nat.{_+_, _*_, _≤_, _-_}
 use native.Mathlib.Omega.{arith}
 use lib.ListN.{length, take, drop, length-drop}
-use Rattle.structure.proofs.Cuts.{join-zeros}
+use Rattle.cells.proofs.Cuts.{join-zeros}
 use Rattle.structure.proofs.Joining as joining
 use borrow.Author.Needs.{needs}
 use Rattle.structure.proofs.greatest.Statement.{statement}

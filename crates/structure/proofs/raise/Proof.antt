@@ -1,113 +1,99 @@
--- `structure::raise` meets its contract: either loop raises, and where the second one runs each row has eight cells.
-use mathlib.Core.Path.{_≡_, ap}
-use Prim.Native.Nat.{ℕ, _+_, _*_, _≤_}
+-- `structure::raise` meets its contract: after j stations the accumulator is what these have raised.
+use mathlib.Core.List.{List}
+use mathlib.Core.Path.{_≡_, _∙_}
+use Prim.Native.Nat.{ℕ, _≤_, _-_}
 use native.Mathlib.Omega.{arith}
-use lib.ListN.{length, take}
-use Rattle.model.specs.Lists.{total}
+use lib.ListN.{length, take, drop}
+use Rattle.model.specs.Structure.{raiseBy}
+use Rattle.structure.specs.Layout.{decoded, structureAt}
 use Rattle.structure.proofs.Raising as raising
 use borrow.Author.Needs.{needs}
 use Rattle.structure.proofs.raise.Statement.{statement}
 use Rattle.structure.proofs.raise.Tie as tie
 
-last-is : (c : tie.After-wide2) → c .before .before .wide .result + c .wide2 .result ≡ total (take (c .before .before .before .before .before .before .before .args .n) (c .before .before .before .before .before .before .before .args .counts .now))
-last-is c =
-    let s = c .before .before .before .before .before .before .before in
-    omega (arith, raising.total-last (s .args .n) (s .args .counts .now) (s .args .offs .now) (s .pre .0))
+abbrev Inv-loop : tie.InvT-loop
+Inv-loop ws at x cut out n acc₀ j₀ acc j = (j ≤ n) × (length acc ≡ 8) × ((bs : List ℕ) → decoded (take n acc) ≡ raiseBy (structureAt n (take n (x .counts)) (drop at ws) bs) (take n cut) j)
 
-room : (c : tie.After-wide2)
-    → c .before .before .before .before .before .before .before .args .at + (c .before .before .wide .result + c .wide2 .result) * c .before .before .before .before .before .before .before .args .n + c .before .before .before .before .before .before .before .args .n ≤ length (c .before .before .before .before .before .before .before .args .ws .now)
-room c =
-    let s = c .before .before .before .before .before .before .before in
+abbrev μ-loop : tie.MeasureT-loop
+μ-loop ws at x cut out n acc₀ j₀ acc j = n - j
+
+slice-aggregate-join-at : tie.Need-slice-aggregate-join-at Inv-loop μ-loop
+slice-aggregate-join-at c = search needs
+
+join-at-requires : tie.Need-join-at-requires Inv-loop μ-loop
+join-at-requires c κs =
+    let s = c .before .before .before in
     let a = s .args in
-    rw (last-is c) (raising.cells-room (a .n) (take (a .n) (a .counts .now)) (a .at) (length (a .ws .now)) (s .pre .1 .2))
+    (search needs, s .pre .0 .few-stations, omega (arith, raising.shape-room (a .x) (s .pre .0) (a .at) (length (a .ws .now)) (s .pre .1 .2)))
 
-raise-eight-requires : tie.Need-raise-eight-requires
-raise-eight-requires c κs =
-    let s = c .before .before .before .before in
+loop-holds : tie.Need-loop-holds Inv-loop μ-loop
+loop-holds c =
+    let s = c .before .before .before .before .before in
     let a = s .args in
-    let e : a .n ≡ 8 = c .before .if1 .taken in
-    (rw e at (s .pre .0), (s .pre .1 .0, s .pre .1 .1, rw e at (raising.cells-room (a .n) (take (a .n) (a .counts .now)) (a .at) (length (a .ws .now)) (s .pre .1 .2)), s .pre .1 .3))
+    (omega arith, c .before .join-at .kept .0, λ bs. raising.raise-start (a .x .n) (a .x .counts) (a .at) (a .ws .now) (take (a .x .n) (a .cut .now)) (c .before .join-at .last .0) (s .pre .0 .some-station) (s .pre .0 .few-stations) (omega (arith, raising.shape-room (a .x) (s .pre .0) (a .at) (length (a .ws .now)) (s .pre .1 .2))) (s .pre .1 .3) (c .before .join-at .ensures) bs)
 
-same-length : tie.Need-same-length
+element-copy-out-add-station : tie.Need-element-copy-out-add-station Inv-loop μ-loop
+element-copy-out-add-station c = search needs
+
+slice-aggregate-add-station : tie.Need-slice-aggregate-add-station Inv-loop μ-loop
+slice-aggregate-add-station c = search needs
+
+add-station-requires : tie.Need-add-station-requires Inv-loop μ-loop
+add-station-requires c κs =
+    let s = c .before .before .before .before .before .before .before .before .before in
+    (s .pre .0, (c .before .before .before .loop .inv .1, c .before .before .loop-test .taken, s .pre .1 .2))
+
+add-j : tie.Need-add-j Inv-loop μ-loop
+add-j c = search needs
+
+loop-less : tie.Need-loop-less Inv-loop μ-loop
+loop-less c = search needs
+
+loop-again : tie.Need-loop-again Inv-loop μ-loop
+loop-again c =
+    let s = c .before .before .before .before .before .before .before .before .before .before .before in
+    let a = s .args in
+    let l = c .before .before .before .before .before .loop in (
+      omega arith,
+      c .before .add-station .kept .1 .1 .1 .1 .1 .0 ∙ l .inv .1,
+      λ bs. raising.raise-turn (a .x .n) (structureAt (a .x .n) (take (a .x .n) (a .x .counts)) (drop (a .at) (a .ws .now)) bs) (a .cut .now) (l .j) _ _ (c .before .before .before .before .loop-test .taken) (l .inv .2 bs) (c .before .add-station .ensures bs),
+    )
+
+slice-aggregate-copy-cut : tie.Need-slice-aggregate-copy-cut Inv-loop μ-loop
+slice-aggregate-copy-cut c = search needs
+
+copy-cut-requires : tie.Need-copy-cut-requires Inv-loop μ-loop
+copy-cut-requires c κs =
+    let s = c .before .before .before .before .before .before .before .before .before in
+    (s .pre .1 .0, c .before .before .before .loop .inv .1)
+
+same-length : tie.Need-same-length Inv-loop μ-loop
 same-length c = search needs
 
-returns : tie.Need-returns
+returns : tie.Need-returns Inv-loop μ-loop
 returns c =
-    let e : c .before .before .before .before .before .before .before .args .n ≡ 8 = c .before .before .before .before .if1 .taken in
-    rw e (c .before .before .raise-eight .ensures)
-
-sub-wide : tie.Need-sub-wide
-sub-wide c = search needs
-
-element-copy-out-wide : tie.Need-element-copy-out-wide
-element-copy-out-wide c = search needs
-
-wide-requires : tie.Need-wide-requires
-wide-requires c κs = search needs
-
-sub-wide-2 : tie.Need-sub-wide-2
-sub-wide-2 c = search needs
-
-element-copy-out-wide-2 : tie.Need-element-copy-out-wide-2
-element-copy-out-wide-2 c = search needs
-
-wide-requires-2 : tie.Need-wide-requires-2
-wide-requires-2 c κs = search needs
-
-add-last : tie.Need-add-last
-add-last c = search needs
-
-sub-if2 : tie.Need-sub-if2
-sub-if2 c = search needs
-
-mul-if2 : tie.Need-mul-if2
-mul-if2 c = omega (arith, room c)
-
-sub-if2-2 : tie.Need-sub-if2-2
-sub-if2-2 c = omega (arith, room c)
-
-raise-any-requires : tie.Need-raise-any-requires
-raise-any-requires c κs = search needs
-
-same-length-2 : tie.Need-same-length-2
-same-length-2 c = search needs
-
-returns-2 : tie.Need-returns-2
-returns-2 c = search needs
-
-raise-eight-requires-2 : tie.Need-raise-eight-requires-2
-raise-eight-requires-2 c κs =
-    let w = c .before .before in
-    let s = w .before .before .before .before .before .before .before in
-    let e = ap (λ (x : ℕ). x * s .args .n) (last-is w) in
-    (s .pre .0, (s .pre .1 .0, s .pre .1 .1, omega (arith, e, room w, c .before .if2 .left), s .pre .1 .3))
-
-same-length-3 : tie.Need-same-length-3
-same-length-3 c = search needs
-
-returns-3 : tie.Need-returns-3
-returns-3 c = search needs
+    let s = c .before .before .before .before .before .before .before .before .before .before .before .before in
+    let a = s .args in
+    let l = c .before .before .before .before .before .before .loop in
+    let q : l .j ≡ a .x .n = omega arith in
+    λ bs. raising.raise-finish (a .x .n) (structureAt (a .x .n) (take (a .x .n) (a .x .counts)) (drop (a .at) (a .ws .now)) bs) (a .cut .now) (l .acc) (c .before .before .copy-cut .last .0) (omega arith) (l .j) q (c .before .before .copy-cut .ensures) (l .inv .2 bs)
 
 pub raise-spec : {M : Type 1} → statement M
 raise-spec =
     tie.close
     (tie.spec
-    raise-eight-requires
+    Inv-loop
+    μ-loop
+    slice-aggregate-join-at
+    join-at-requires
+    loop-holds
+    element-copy-out-add-station
+    slice-aggregate-add-station
+    add-station-requires
+    add-j
+    loop-less
+    loop-again
+    slice-aggregate-copy-cut
+    copy-cut-requires
     same-length
-    returns
-    sub-wide
-    element-copy-out-wide
-    wide-requires
-    sub-wide-2
-    element-copy-out-wide-2
-    wide-requires-2
-    add-last
-    sub-if2
-    mul-if2
-    sub-if2-2
-    raise-any-requires
-    same-length-2
-    returns-2
-    raise-eight-requires-2
-    same-length-3
-    returns-3)
+    returns)
