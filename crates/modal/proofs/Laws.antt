@@ -8,7 +8,7 @@ use mathlib.Core.Bool.{Bool, true, false, cond}
 use mathlib.Core.Option.{none, some}
 use lib.Dec.{eqb, ltb}
 use lib.ListN.{length, getD, take, drop, set, replicate, length-drop, length-replicate, getD-replicate, List·getD-append}
-use lib.Seq.{paste, length-take-le, take-at, drop-at, drop-drop, take-all, getD-take, getD-drop, getD-append-add}
+use lib.Seq.{paste, length-take-le, take-at, drop-at, drop-drop, getD-take, getD-drop, getD-append-add}
 use borrow.Author.Tests.{eq-eqb, ne-eqb, eqb-false, ltb-true, ltb-false}
 use borrow.Rule.Slice.PartMut.{putMid}
 use Rattle.model.specs.Lists.{total}
@@ -18,9 +18,10 @@ use Rattle.model.specs.Structure.{Structure, joinRow, joinRows, greatest, keep,
 use Rattle.model.specs.Basis.{each, below, lowered, barred}
 use Rattle.lattice.proofs.Cuts.{⊑-inside, join-at, empty-⊑}
 use Rattle.structure.specs.Layout.{decoded, rowsAt, stationsAt, structureAt, standing, barsAt, cells, barCells}
+use Rattle.structure.specs.declared.Shape.{Shape}
 use Rattle.structure.specs.Laid.{Laid}
 use Rattle.steps.specs.Rows.{rowAt, absent, belowRow, Ended}
-use Rattle.structure.proofs.Parts.{part-same, paste-part, paste-take, put-end}
+use Rattle.cells.proofs.Parts.{drop-whole, part-same, paste-part, paste-take, paste-behind, put-end}
 use Rattle.structure.proofs.Rows.{decoded-none, decoded-some}
 use Rattle.structure.proofs.Places.{one-more, cells-are, next-fits, row-fits}
 use Rattle.steps.proofs.Parts.{row-zero, row-suc, rows-more}
@@ -56,25 +57,22 @@ below-least n g starts w h e f q =
     sym (getD-replicate n 0 0 0 h) ∙ ap (λ (x : List ℕ). getD x 0 0) (sym r ∙ row-zero n w) ∙ getD-take n w 0 0 h ∙ q in
     omega arith
 
-module _ (K : Computation) (n e : ℕ) (counts offs starts values : List ℕ) (laid : Laid K n e counts offs starts values) where
-  below-decoded : (g : Cut) (i : ℕ) → i ≤ e → decoded (belowRow n g starts i) ≡ below g (rowAt n i starts)
+module _ (K : Computation) (shape : Shape) (starts : List ℕ) (laid : Laid K shape starts) where
+  below-decoded : (g : Cut) (i : ℕ) → i ≤ shape .e → decoded (belowRow (shape .n) g starts i) ≡ below g (rowAt (shape .n) i starts)
   unfolding belowRow below
-  below-decoded g i h = go (inside (rowAt n i starts) g)
+  below-decoded g i h = go (inside (rowAt (shape .n) i starts) g)
     where
-      go : (b : Bool) → decoded (cond b (rowAt n i starts) (absent n)) ≡ cond b (some (rowAt n i starts)) none
-      go true = decoded-some (rowAt n i starts) (start-there K n e counts offs starts values laid i h)
-      go false = decoded-none (absent n) (getD-replicate n 0 255 0 (laid .some-station))
+      go : (b : Bool) → decoded (cond b (rowAt (shape .n) i starts) (absent (shape .n))) ≡ cond b (some (rowAt (shape .n) i starts)) none
+      go true = decoded-some (rowAt (shape .n) i starts) (start-there K shape starts laid i h)
+      go false = decoded-none (absent (shape .n)) (getD-replicate (shape .n) 0 255 0 (laid .shaped .some-station))
 
-  pub lowered-stands : (g : Cut) (w b : List ℕ) → ((i : ℕ) → i ≤ e → rowAt n i w ≡ belowRow n g starts i) → (getD w 0 0 ≡ 255 → ⊥) → getD b 0 0 ≡ 255
-      → structureAt n (full K) w b ∷ [] ≡ build K (below g) []
+  pub lowered-stands : (g : Cut) (w b : List ℕ) → ((i : ℕ) → i ≤ shape .e → rowAt (shape .n) i w ≡ belowRow (shape .n) g starts i) → (getD w 0 0 ≡ 255 → ⊥) → getD b 0 0 ≡ 255
+      → structureAt (shape .n) (full K) w b ∷ [] ≡ build K (below g) []
   lowered-stands g w b rows h f =
-      rw (no-bars n b f)
-      (sym (build-there K n e counts offs starts values laid (below g) w (λ i k. ap decoded (rows i k) ∙ below-decoded g i k) [] h ∙ keep-free _ _))
+      rw (no-bars (shape .n) b f)
+      (sym (build-there K shape starts laid (below g) w (λ i k. ap decoded (rows i k) ∙ below-decoded g i k) [] h ∙ keep-free _ _))
 
 -- ONE STRUCTURE AFTER THE OTHER
-
-pub drop-whole : (k : ℕ) (q : List ℕ) → take (length q - k) (drop k q) ≡ drop k q
-drop-whole k q = take-all (length q - k) (drop k q) (omega (arith, length-drop k q))
 
 pub each-append : (f : Structure → List Structure) (L M : List Structure) → each f (L ++ M) ≡ each f L ++ each f M
 unfolding each
@@ -88,108 +86,102 @@ behind-more k m j w p v h q e f =
     ∙ e ∙ ap (drop m) f ∙ drop-drop m k v ∙ ap (λ (x : ℕ). drop x v) (sym q)
 
 -- A turn of the loop for possibly: i structures are done, w₁ and b₁; of what stands behind them p and q are made.
-module _ (n e i : ℕ) (starts w w₁ p b b₁ q : List ℕ) (z : 0 < n) (hw : i * ((e + 1) * n) ≤ length w₁) (hb : i * (16 * n) ≤ length b₁)
-    (dw : drop (i * ((e + 1) * n)) w₁ ≡ drop (i * ((e + 1) * n)) w) (db : drop (i * (16 * n)) b₁ ≡ drop (i * (16 * n)) b)
-    (done : Possible n e i starts w w₁ b b₁) (one : Lowered n e starts (drop (i * ((e + 1) * n)) w₁) p (drop (i * (16 * n)) b₁) q) where
+module _ (shape : Shape) (i : ℕ) (starts w w₁ p b b₁ q : List ℕ) (z : 0 < shape .n) (hw : i * ((shape .e + 1) * shape .n) ≤ length w₁) (hb : i * (16 * shape .n) ≤ length b₁)
+    (done : Possible shape i starts w w₁ b b₁) (one : Lowered shape starts (drop (i * ((shape .e + 1) * shape .n)) w₁) p (drop (i * (16 * shape .n)) b₁) q) where
   abbrev w₂ : List ℕ
-  w₂ = take (i * ((e + 1) * n)) w₁ ++ p
+  w₂ = take (i * ((shape .e + 1) * shape .n)) w₁ ++ p
 
   abbrev b₂ : List ℕ
-  b₂ = take (i * (16 * n)) b₁ ++ q
+  b₂ = take (i * (16 * shape .n)) b₁ ++ q
 
-  pub cells-more : drop ((i + 1) * ((e + 1) * n)) w₂ ≡ drop ((i + 1) * ((e + 1) * n)) w
+  cells-more : drop ((i + 1) * ((shape .e + 1) * shape .n)) w₂ ≡ drop ((i + 1) * ((shape .e + 1) * shape .n)) w
   cells-more =
-      behind-more (i * ((e + 1) * n)) ((e + 1) * n) ((i + 1) * ((e + 1) * n)) w₁ p w hw (one-more i ((e + 1) * n)) (one .cells-behind) dw
+      behind-more (i * ((shape .e + 1) * shape .n)) ((shape .e + 1) * shape .n) ((i + 1) * ((shape .e + 1) * shape .n)) w₁ p w hw (one-more i ((shape .e + 1) * shape .n)) (one .cells-behind) (done .cells-behind)
 
-  pub bars-more : drop ((i + 1) * (16 * n)) b₂ ≡ drop ((i + 1) * (16 * n)) b
-  bars-more = behind-more (i * (16 * n)) (16 * n) ((i + 1) * (16 * n)) b₁ q b hb (one-more i (16 * n)) (one .bars-behind) db
+  bars-more : drop ((i + 1) * (16 * shape .n)) b₂ ≡ drop ((i + 1) * (16 * shape .n)) b
+  bars-more = behind-more (i * (16 * shape .n)) (16 * shape .n) ((i + 1) * (16 * shape .n)) b₁ q b hb (one-more i (16 * shape .n)) (one .bars-behind) (done .bars-behind)
 
-  least-more : Least ((e + 1) * n) (i + 1) w₂
+  least-more : Least ((shape .e + 1) * shape .n) (i + 1) w₂
   least-more j h f = go (ltb j i) refl
     where
-      l : length (take (i * ((e + 1) * n)) w₁) ≡ i * ((e + 1) * n)
-      l = length-take-le (i * ((e + 1) * n)) w₁ hw
+      l : length (take (i * ((shape .e + 1) * shape .n)) w₁) ≡ i * ((shape .e + 1) * shape .n)
+      l = length-take-le (i * ((shape .e + 1) * shape .n)) w₁ hw
 
-      s : 0 < (e + 1) * n
-      s = omega (arith, one-more e n)
+      s : 0 < (shape .e + 1) * shape .n
+      s = omega (arith, one-more (shape .e) (shape .n))
 
       go : (t : Bool) → ltb j i ≡ t → ⊥
       go true g =
           let a : j < i = ltb-true j i g in
-          let k : j * ((e + 1) * n) < i * ((e + 1) * n) = omega (arith, mul-le-mul-right ((e + 1) * n) a, suc-mul j ((e + 1) * n), s) in
+          let k : j * ((shape .e + 1) * shape .n) < i * ((shape .e + 1) * shape .n) = omega (arith, mul-le-mul-right ((shape .e + 1) * shape .n) a, suc-mul j ((shape .e + 1) * shape .n), s) in
           done .least j a
-          (sym (getD-take (i * ((e + 1) * n)) w₁ (j * ((e + 1) * n)) 0 k) ∙ sym (List·getD-append (take (i * ((e + 1) * n)) w₁) p 0 (j * ((e + 1) * n)) (omega (arith, l))) ∙ f)
+          (sym (getD-take (i * ((shape .e + 1) * shape .n)) w₁ (j * ((shape .e + 1) * shape .n)) 0 k) ∙ sym (List·getD-append (take (i * ((shape .e + 1) * shape .n)) w₁) p 0 (j * ((shape .e + 1) * shape .n)) (omega (arith, l))) ∙ f)
       go false g =
           let a : j ≡ i = omega (arith, ltb-false j i g) in
-          let u : j * ((e + 1) * n) ≡ length (take (i * ((e + 1) * n)) w₁) + 0 = ap (λ (x : ℕ). x * ((e + 1) * n)) a ∙ sym l ∙ sym (add-zero _) in
-          one .least (sym (ap (λ (x : ℕ). getD w₂ x 0) u ∙ getD-append-add (take (i * ((e + 1) * n)) w₁) p 0 0) ∙ f)
+          let u : j * ((shape .e + 1) * shape .n) ≡ length (take (i * ((shape .e + 1) * shape .n)) w₁) + 0 = ap (λ (x : ℕ). x * ((shape .e + 1) * shape .n)) a ∙ sym l ∙ sym (add-zero _) in
+          one .least (sym (ap (λ (x : ℕ). getD w₂ x 0) u ∙ getD-append-add (take (i * ((shape .e + 1) * shape .n)) w₁) p 0 0) ∙ f)
 
-  pub lower-turn : Possible n e (i + 1) starts w w₂ b b₂
+  pub lower-turn : Possible shape (i + 1) starts w w₂ b b₂
   unfolding lowered each standing
   lower-turn = record {
-    stands = λ K counts offs values laid.
-        let c = cells-are n e (full K) (laid .counted) in
-        let k : i * cells n (full K) ≡ i * ((e + 1) * n) = ap (λ (x : ℕ). i * x) c in
-        let x : drop (i * cells n (full K)) w₂ ≡ p = ap (λ (x : ℕ). drop x w₂) k ∙ drop-at (take (i * ((e + 1) * n)) w₁) p (i * ((e + 1) * n)) (length-take-le (i * ((e + 1) * n)) w₁ hw) in
-        let y : drop (i * barCells n) b₂ ≡ q = drop-at (take (i * (16 * n)) b₁) q (i * (16 * n)) (length-take-le (i * (16 * n)) b₁ hb) in
-        let old : standing n (full K) i w₂ b₂ ≡ standing n (full K) i w₁ b₁ =
-        standing-same n (full K) i w₂ w₁ b₂ b₁ z (ap (λ (j : ℕ). take j w₂) k ∙ take-at (take (i * ((e + 1) * n)) w₁) p (i * ((e + 1) * n)) (length-take-le (i * ((e + 1) * n)) w₁ hw) ∙ ap (λ (j : ℕ). take j w₁) (sym k))
-        (take-at (take (i * (16 * n)) b₁) q (i * (16 * n)) (length-take-le (i * (16 * n)) b₁ hb)) in
-        let new : standing n (full K) 1 (drop (i * cells n (full K)) w₂) (drop (i * barCells n) b₂) ≡ lowered K (standing n (full K) 1 (drop (i * cells n (full K)) w) (drop (i * barCells n) b)) =
-        ap₂ (standing n (full K) 1) x y ∙ one .stands K counts offs values laid
-        ∙ ap₂ (λ (u v : List ℕ). build K (below (greatest (structureAt n (full K) u v))) []) (dw ∙ ap (λ (j : ℕ). drop j w) (sym k)) db
+    stands = λ K laid.
+        let c = cells-are (shape .n) (shape .e) (full K) (laid .counted) in
+        let k : i * cells (shape .n) (full K) ≡ i * ((shape .e + 1) * shape .n) = ap (λ (x : ℕ). i * x) c in
+        let x : drop (i * cells (shape .n) (full K)) w₂ ≡ p = ap (λ (x : ℕ). drop x w₂) k ∙ drop-at (take (i * ((shape .e + 1) * shape .n)) w₁) p (i * ((shape .e + 1) * shape .n)) (length-take-le (i * ((shape .e + 1) * shape .n)) w₁ hw) in
+        let y : drop (i * barCells (shape .n)) b₂ ≡ q = drop-at (take (i * (16 * shape .n)) b₁) q (i * (16 * shape .n)) (length-take-le (i * (16 * shape .n)) b₁ hb) in
+        let old : standing (shape .n) (full K) i w₂ b₂ ≡ standing (shape .n) (full K) i w₁ b₁ =
+        standing-same (shape .n) (full K) i w₂ w₁ b₂ b₁ z (ap (λ (j : ℕ). take j w₂) k ∙ take-at (take (i * ((shape .e + 1) * shape .n)) w₁) p (i * ((shape .e + 1) * shape .n)) (length-take-le (i * ((shape .e + 1) * shape .n)) w₁ hw) ∙ ap (λ (j : ℕ). take j w₁) (sym k))
+        (take-at (take (i * (16 * shape .n)) b₁) q (i * (16 * shape .n)) (length-take-le (i * (16 * shape .n)) b₁ hb)) in
+        let new : standing (shape .n) (full K) 1 (drop (i * cells (shape .n) (full K)) w₂) (drop (i * barCells (shape .n)) b₂) ≡ lowered K (standing (shape .n) (full K) 1 (drop (i * cells (shape .n) (full K)) w) (drop (i * barCells (shape .n)) b)) =
+        ap₂ (standing (shape .n) (full K) 1) x y ∙ one .stands K laid
+        ∙ ap₂ (λ (u v : List ℕ). build K (below (greatest (structureAt (shape .n) (full K) u v))) []) (done .cells-behind ∙ ap (λ (j : ℕ). drop j w) (sym k)) (done .bars-behind)
         ∙ sym (append-nil _) in
-        standing-add n (full K) i 1 w₂ b₂ ∙ ap₂ (λ (l m : List Structure). l ++ m) (old ∙ done .stands K counts offs values laid) new
-        ∙ sym (each-append (λ S. build K (below (greatest S)) []) (standing n (full K) i w b) _)
-        ∙ ap (lowered K) (sym (standing-add n (full K) i 1 w b));
+        standing-add (shape .n) (full K) i 1 w₂ b₂ ∙ ap₂ (λ (l m : List Structure). l ++ m) (old ∙ done .stands K laid) new
+        ∙ sym (each-append (λ S. build K (below (greatest S)) []) (standing (shape .n) (full K) i w b) _)
+        ∙ ap (lowered K) (sym (standing-add (shape .n) (full K) i 1 w b));
     least = least-more;
+    cells-behind = cells-more;
+    bars-behind = bars-more;
   }
 
-pub lower-none : (n e : ℕ) (starts w b : List ℕ) → Possible n e 0 starts w w b b
+pub lower-none : (shape : Shape) (starts w b : List ℕ) → Possible shape 0 starts w w b b
 unfolding standing lowered each
-lower-none n e starts w b = record { stands = λ K counts offs values laid. refl; least = λ i h. absurd (not-suc-le-zero h) }
+lower-none shape starts w b = record { stands = λ K laid. refl; least = λ i h. absurd (not-suc-le-zero h); cells-behind = refl; bars-behind = refl }
 
-pub lower-all : (n e i k : ℕ) (starts w w₂ b b₂ : List ℕ) → i ≡ k → Possible n e i starts w w₂ b b₂ → Possible n e k starts w w₂ b b₂
-lower-all n e i k starts w w₂ b b₂ q d = rw (← q) d
+pub lower-all : (shape : Shape) (i k : ℕ) (starts w w₂ b b₂ : List ℕ) → i ≡ k → Possible shape i starts w w₂ b b₂ → Possible shape k starts w w₂ b b₂
+lower-all shape i k starts w w₂ b b₂ q d = rw (← q) d
 
 -- A part that goes to the end has room.
 pub part-room : (k m : ℕ) (w : List ℕ) → k + m ≤ length w → m ≤ length (take (length w - k) (drop k w))
 part-room k m w h = omega (arith, ap length (drop-whole k w), length-drop k w)
 
 -- The same turn, as the code leaves it.
-module _ (n e i : ℕ) (starts w w₁ p b b₁ q : List ℕ) (z : 0 < n) (hw : i * ((e + 1) * n) ≤ length w₁) (hb : i * (16 * n) ≤ length b₁)
-    (dw : drop (i * ((e + 1) * n)) w₁ ≡ drop (i * ((e + 1) * n)) w) (db : drop (i * (16 * n)) b₁ ≡ drop (i * (16 * n)) b)
-    (done : Possible n e i starts w w₁ b b₁)
-    (one : Lowered n e starts (take (length w₁ - i * ((e + 1) * n)) (drop (i * ((e + 1) * n)) w₁)) p (take (length b₁ - i * (16 * n)) (drop (i * (16 * n)) b₁)) q) where
-  one′ : Lowered n e starts (drop (i * ((e + 1) * n)) w₁) p (drop (i * (16 * n)) b₁) q
+module _ (shape : Shape) (i : ℕ) (starts w w₁ p b b₁ q : List ℕ) (z : 0 < shape .n) (hw : i * ((shape .e + 1) * shape .n) ≤ length w₁) (hb : i * (16 * shape .n) ≤ length b₁)
+    (done : Possible shape i starts w w₁ b b₁)
+    (one : Lowered shape starts (take (length w₁ - i * ((shape .e + 1) * shape .n)) (drop (i * ((shape .e + 1) * shape .n)) w₁)) p (take (length b₁ - i * (16 * shape .n)) (drop (i * (16 * shape .n)) b₁)) q) where
+  one′ : Lowered shape starts (drop (i * ((shape .e + 1) * shape .n)) w₁) p (drop (i * (16 * shape .n)) b₁) q
   one′ =
-      subst (λ (x : List ℕ). Lowered n e starts (drop (i * ((e + 1) * n)) w₁) p x q) (drop-whole (i * (16 * n)) b₁)
-      (subst (λ (x : List ℕ). Lowered n e starts x p (take (length b₁ - i * (16 * n)) (drop (i * (16 * n)) b₁)) q) (drop-whole (i * ((e + 1) * n)) w₁) one)
+      subst (λ (x : List ℕ). Lowered shape starts (drop (i * ((shape .e + 1) * shape .n)) w₁) p x q) (drop-whole (i * (16 * shape .n)) b₁)
+      (subst (λ (x : List ℕ). Lowered shape starts x p (take (length b₁ - i * (16 * shape .n)) (drop (i * (16 * shape .n)) b₁)) q) (drop-whole (i * ((shape .e + 1) * shape .n)) w₁) one)
 
-  pub cells-put : drop ((i + 1) * ((e + 1) * n)) (putMid (i * ((e + 1) * n)) (length w₁ - i * ((e + 1) * n)) w₁ p) ≡ drop ((i + 1) * ((e + 1) * n)) w
-  cells-put = ap (drop ((i + 1) * ((e + 1) * n))) (put-end (i * ((e + 1) * n)) w₁ p hw) ∙ cells-more n e i starts w w₁ p b b₁ q z hw hb dw db done one′
-
-  pub bars-put : drop ((i + 1) * (16 * n)) (putMid (i * (16 * n)) (length b₁ - i * (16 * n)) b₁ q) ≡ drop ((i + 1) * (16 * n)) b
-  bars-put = ap (drop ((i + 1) * (16 * n))) (put-end (i * (16 * n)) b₁ q hb) ∙ bars-more n e i starts w w₁ p b b₁ q z hw hb dw db done one′
-
-  pub lower-put : Possible n e (i + 1) starts w (putMid (i * ((e + 1) * n)) (length w₁ - i * ((e + 1) * n)) w₁ p) b (putMid (i * (16 * n)) (length b₁ - i * (16 * n)) b₁ q)
+  pub lower-put : Possible shape (i + 1) starts w (putMid (i * ((shape .e + 1) * shape .n)) (length w₁ - i * ((shape .e + 1) * shape .n)) w₁ p) b (putMid (i * (16 * shape .n)) (length b₁ - i * (16 * shape .n)) b₁ q)
   lower-put =
-      subst (λ (x : List ℕ). Possible n e (i + 1) starts w x b (putMid (i * (16 * n)) (length b₁ - i * (16 * n)) b₁ q)) (sym (put-end (i * ((e + 1) * n)) w₁ p hw))
-      (subst (λ (x : List ℕ). Possible n e (i + 1) starts w (take (i * ((e + 1) * n)) w₁ ++ p) b x) (sym (put-end (i * (16 * n)) b₁ q hb))
-      (lower-turn n e i starts w w₁ p b b₁ q z hw hb dw db done one′))
+      subst (λ (x : List ℕ). Possible shape (i + 1) starts w x b (putMid (i * (16 * shape .n)) (length b₁ - i * (16 * shape .n)) b₁ q)) (sym (put-end (i * ((shape .e + 1) * shape .n)) w₁ p hw))
+      (subst (λ (x : List ℕ). Possible shape (i + 1) starts w (take (i * ((shape .e + 1) * shape .n)) w₁ ++ p) b x) (sym (put-end (i * (16 * shape .n)) b₁ q hb))
+      (lower-turn shape i starts w w₁ p b b₁ q z hw hb done one′))
 
-pub lower-one : (n e : ℕ) (starts w w₂ b g : List ℕ) → 0 < n → 16 * n ≤ length b → rowAt n 0 starts ≡ replicate n 0
-    → ((counts d : List ℕ) → total counts ≡ e → take n g ≡ greatest (structureAt n counts w d))
-    → ((i : ℕ) → i ≤ e → rowAt n i w₂ ≡ belowRow n (take n g) starts i) → drop ((e + 1) * n) w₂ ≡ drop ((e + 1) * n) w → Lowered n e starts w w₂ b (set b 0 255)
-lower-one n e starts w w₂ b g z l f top rows behind =
-    let least : getD w₂ 0 0 ≡ 255 → ⊥ = below-least n (take n g) starts w₂ z f (rows 0 (omega arith)) in
+pub lower-one : (shape : Shape) (starts w w₂ b g : List ℕ) → 0 < shape .n → 16 * shape .n ≤ length b → rowAt (shape .n) 0 starts ≡ replicate (shape .n) 0
+    → ((counts d : List ℕ) → total counts ≡ shape .e → take (shape .n) g ≡ greatest (structureAt (shape .n) counts w d))
+    → ((i : ℕ) → i ≤ shape .e → rowAt (shape .n) i w₂ ≡ belowRow (shape .n) (take (shape .n) g) starts i) → drop ((shape .e + 1) * shape .n) w₂ ≡ drop ((shape .e + 1) * shape .n) w → Lowered shape starts w w₂ b (set b 0 255)
+lower-one shape starts w w₂ b g z l f top rows behind =
+    let least : getD w₂ 0 0 ≡ 255 → ⊥ = below-least (shape .n) (take (shape .n) g) starts w₂ z f (rows 0 (omega arith)) in
     record {
-      stands = λ K counts offs values laid.
-          lowered-stands K n e counts offs starts values laid (greatest (structureAt n (full K) w b)) w₂ (set b 0 255)
-          (λ i h. rows i h ∙ ap (λ (x : Cut). belowRow n x starts i) (top (full K) b (laid .counted))) least (lib.Seq.getD-set-same b 0 255 0 (omega arith));
+      stands = λ K laid.
+          lowered-stands K shape starts laid (greatest (structureAt (shape .n) (full K) w b)) w₂ (set b 0 255)
+          (λ i h. rows i h ∙ ap (λ (x : Cut). belowRow (shape .n) x starts i) (top (full K) b (laid .counted))) least (lib.Seq.getD-set-same b 0 255 0 (omega arith));
       least = least;
       cells-behind = behind;
-      bars-behind = lib.Seq.drop-set-lt (16 * n) b 0 255 (omega arith);
+      bars-behind = lib.Seq.drop-set-lt (16 * shape .n) b 0 255 (omega arith);
     }
 
 -- BARS
@@ -204,6 +196,13 @@ bars-turn n e i w b b₂ g h l k top q inv r s counts d t =
     let f : ℕ → List ℕ = λ j. greatest (structureAt n counts (drop (j * ((e + 1) * n)) w) d) in
     rows-more n f i b b₂ h (ap length (sym (top counts d t)) ∙ l₂)
     (q ∙ paste-take b (i * n) g n ∙ ap (λ (x : List ℕ). paste b (i * n) x n) (top counts d t)) (λ j u. inv j u counts d t) r s
+
+-- Nothing behind it changes.
+pub bars-behind : (n i : ℕ) (b₀ b b₂ g : List ℕ) → i * n + n ≤ length b → n ≤ length g → b₂ ≡ paste b (i * n) (drop 0 g) n → drop (i * n) b ≡ drop (i * n) b₀
+    → drop ((i + 1) * n) b₂ ≡ drop ((i + 1) * n) b₀
+bars-behind n i b₀ b b₂ g h l q e =
+    ap (drop ((i + 1) * n)) q ∙ paste-behind b (i * n) g n (omega arith) l ((i + 1) * n) (omega (arith, one-more i n))
+    ∙ ap (λ (x : ℕ). drop x b) (one-more i n) ∙ sym (drop-drop n (i * n) b) ∙ ap (drop n) e ∙ drop-drop n (i * n) b₀ ∙ ap (λ (x : ℕ). drop x b₀) (sym (one-more i n))
 
 up : {a b : ℕ} → a < b → suc a < suc b
 up h = omega arith
@@ -265,51 +264,51 @@ all-rows : (n e : ℕ) (starts w w₂ : List ℕ) → (e + 1) * n ≤ length sta
 all-rows n e starts w w₂ l q i k =
     part-same ((e + 1) * n) w₂ starts (ap (take ((e + 1) * n)) q ∙ paste-part w 0 starts ((e + 1) * n) (omega arith) l) (i * n) n (row-fits i e n k)
 
-module _ (n e k : ℕ) (starts w w₂ b b₁ b₂ : List ℕ) (z : 0 < n) (few : k ≤ 16) (hs : (e + 1) * n ≤ length starts)
-    (there : getD starts 0 0 ≡ 255 → ⊥) (firsts : Least ((e + 1) * n) k w)
-    (rows : (i : ℕ) → i < k → (counts d : List ℕ) → total counts ≡ e → rowAt n i b₁ ≡ greatest (structureAt n counts (drop (i * ((e + 1) * n)) w) d))
-    (end : Ended 0 k n b₁ b₂) (q : w₂ ≡ paste w 0 (drop 0 starts) ((e + 1) * n)) where
+module _ (shape : Shape) (k : ℕ) (starts w w₂ b b₁ b₂ : List ℕ) (z : 0 < shape .n) (few : k ≤ 16) (hs : (shape .e + 1) * shape .n ≤ length starts)
+    (there : getD starts 0 0 ≡ 255 → ⊥) (firsts : Least ((shape .e + 1) * shape .n) k w)
+    (rows : (i : ℕ) → i < k → (counts d : List ℕ) → total counts ≡ shape .e → rowAt (shape .n) i b₁ ≡ greatest (structureAt (shape .n) counts (drop (i * ((shape .e + 1) * shape .n)) w) d))
+    (end : Ended 0 k (shape .n) b₁ b₂) (q : w₂ ≡ paste w 0 (drop 0 starts) ((shape .e + 1) * shape .n)) where
   first-all : getD w₂ 0 0 ≡ 255 → ⊥
   first-all f =
-      let r : take n w₂ ≡ take n starts = sym (row-zero n w₂) ∙ all-rows n e starts w w₂ hs q 0 (omega arith) ∙ row-zero n starts in
-      there (sym (getD-take n starts 0 0 z) ∙ ap (λ (x : List ℕ). getD x 0 0) (sym r) ∙ getD-take n w₂ 0 0 z ∙ f)
+      let r : take (shape .n) w₂ ≡ take (shape .n) starts = sym (row-zero (shape .n) w₂) ∙ all-rows (shape .n) (shape .e) starts w w₂ hs q 0 (omega arith) ∙ row-zero (shape .n) starts in
+      there (sym (getD-take (shape .n) starts 0 0 z) ∙ ap (λ (x : List ℕ). getD x 0 0) (sym r) ∙ getD-take (shape .n) w₂ 0 0 z ∙ f)
 
-  kept-rows : (i : ℕ) → i < k → rowAt n i b₂ ≡ rowAt n i b₁
-  kept-rows i h = part-same (0 + k * n) b₂ b₁ (end .front) (i * n) n (omega (arith, next-fits i k n h))
+  kept-rows : (i : ℕ) → i < k → rowAt (shape .n) i b₂ ≡ rowAt (shape .n) i b₁
+  kept-rows i h = part-same (0 + k * shape .n) b₂ b₁ (end .front) (i * shape .n) (shape .n) (omega (arith, next-fits i k (shape .n) h))
 
-  module _ (K : Computation) (counts offs values : List ℕ) (laid : Laid K n e counts offs starts values) where
-    barred-is : barred K (standing n (full K) k w b) ≡ keep (structureAt n (full K) w₂ b₂)
+  module _ (K : Computation) (laid : Laid K shape starts) where
+    barred-is : barred K (standing (shape .n) (full K) k w b) ≡ keep (structureAt (shape .n) (full K) w₂ b₂)
     unfolding barred
     barred-is =
-        let c = sym (cells-are n e (full K) (laid .counted)) in
-        let bars : barsAt n 16 b₂ ≡ map greatest (standing n (full K) k w b) =
-        bars-are n z 16 k b₂ (full K) w b few
-        (λ j h. kept-rows j h ∙ rows j h (full K) (drop (j * barCells n) b) (laid .counted) ∙ ap (λ (x : ℕ). greatest (structureAt n (full K) (drop (j * x) w) (drop (j * barCells n) b))) c)
+        let c = sym (cells-are (shape .n) (shape .e) (full K) (laid .counted)) in
+        let bars : barsAt (shape .n) 16 b₂ ≡ map greatest (standing (shape .n) (full K) k w b) =
+        bars-are (shape .n) z 16 k b₂ (full K) w b few
+        (λ j h. kept-rows j h ∙ rows j h (full K) (drop (j * barCells (shape .n)) b) (laid .counted) ∙ ap (λ (x : ℕ). greatest (structureAt (shape .n) (full K) (drop (j * x) w) (drop (j * barCells (shape .n)) b))) c)
         (λ j h f. firsts j h (ap (λ (x : ℕ). getD w (j * x) 0) c ∙ f))
-        (λ h. ap (λ (x : ℕ). getD b₂ x 0) (let o : k * n ≡ 0 + k * n = omega arith in o) ∙ end .ends h) in
-        build-there K n e counts offs starts values laid some w₂
-        (λ i h. ap decoded (all-rows n e starts w w₂ hs q i h) ∙ decoded-some (rowAt n i starts) (start-there K n e counts offs starts values laid i h))
-        (map greatest (standing n (full K) k w b)) first-all
-        ∙ ap (λ (l : List Cut). keep (record { least = take n w₂; rows = stationsAt n (full K) (drop n w₂); bars = l })) (sym bars)
+        (λ h. ap (λ (x : ℕ). getD b₂ x 0) (let o : k * shape .n ≡ 0 + k * shape .n = omega arith in o) ∙ end .ends h) in
+        build-there K shape starts laid some w₂
+        (λ i h. ap decoded (all-rows (shape .n) (shape .e) starts w w₂ hs q i h) ∙ decoded-some (rowAt (shape .n) i starts) (start-there K shape starts laid i h))
+        (map greatest (standing (shape .n) (full K) k w b)) first-all
+        ∙ ap (λ (l : List Cut). keep (record { least = take (shape .n) w₂; rows = stationsAt (shape .n) (full K) (drop (shape .n) w₂); bars = l })) (sym bars)
 
-  module _ (g : List ℕ) (t : Bool) (top : (counts d : List ℕ) → total counts ≡ e → take n g ≡ greatest (structureAt n counts (drop 0 w₂) d))
-      (test : t ≡ insideAny (take n g) (barsAt n 16 (drop 0 b₂))) where
-    pub bar-dropped : t ≡ true → Impossible n e k 0 starts w w₂ b b₂
+  module _ (g : List ℕ) (t : Bool) (top : (counts d : List ℕ) → total counts ≡ shape .e → take (shape .n) g ≡ greatest (structureAt (shape .n) counts (drop 0 w₂) d))
+      (test : t ≡ insideAny (take (shape .n) g) (barsAt (shape .n) 16 (drop 0 b₂))) where
+    pub bar-dropped : t ≡ true → Impossible shape k 0 starts w w₂ b b₂
     unfolding standing keep
     bar-dropped y = record {
-      stands = λ K counts offs values laid.
-          sym (barred-is K counts offs values laid
-          ∙ ap (λ (x : Bool). cond x [] (structureAt n (full K) w₂ b₂ ∷ [])) (ap (λ (x : Cut). insideAny x (barsAt n 16 b₂)) (sym (top (full K) b₂ (laid .counted))) ∙ sym test ∙ y));
+      stands = λ K laid.
+          sym (barred-is K laid
+          ∙ ap (λ (x : Bool). cond x [] (structureAt (shape .n) (full K) w₂ b₂ ∷ [])) (ap (λ (x : Cut). insideAny x (barsAt (shape .n) 16 b₂)) (sym (top (full K) b₂ (laid .counted))) ∙ sym test ∙ y));
       least = λ i h. absurd (not-suc-le-zero h);
       few = omega arith;
     }
 
-    pub bar-kept : t ≡ false → Impossible n e k 1 starts w w₂ b b₂
+    pub bar-kept : t ≡ false → Impossible shape k 1 starts w w₂ b b₂
     unfolding standing keep
     bar-kept y = record {
-      stands = λ K counts offs values laid.
-          sym (barred-is K counts offs values laid
-          ∙ ap (λ (x : Bool). cond x [] (structureAt n (full K) w₂ b₂ ∷ [])) (ap (λ (x : Cut). insideAny x (barsAt n 16 b₂)) (sym (top (full K) b₂ (laid .counted))) ∙ sym test ∙ y));
-      least = λ i h f. first-all (ap (λ (x : ℕ). getD w₂ x 0) (sym (ap (λ (x : ℕ). x * ((e + 1) * n)) (let o : i ≡ 0 = omega arith in o) ∙ zero-mul ((e + 1) * n))) ∙ f);
+      stands = λ K laid.
+          sym (barred-is K laid
+          ∙ ap (λ (x : Bool). cond x [] (structureAt (shape .n) (full K) w₂ b₂ ∷ [])) (ap (λ (x : Cut). insideAny x (barsAt (shape .n) 16 b₂)) (sym (top (full K) b₂ (laid .counted))) ∙ sym test ∙ y));
+      least = λ i h f. first-all (ap (λ (x : ℕ). getD w₂ x 0) (sym (ap (λ (x : ℕ). x * ((shape .e + 1) * shape .n)) (let o : i ≡ 0 = omega arith in o) ∙ zero-mul ((shape .e + 1) * shape .n))) ∙ f);
       few = omega arith;
     }

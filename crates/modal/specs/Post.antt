@@ -7,6 +7,7 @@ use Rattle.model.specs.Computation.{Computation, full}
 use Rattle.model.specs.Structure.{greatest, build}
 use Rattle.model.specs.Basis.{below, lowered, barred}
 use Rattle.structure.specs.Layout.{structureAt, standing}
+use Rattle.structure.specs.declared.Shape.{Shape}
 use Rattle.structure.specs.Laid.{Laid}
 
 -- The first cell of each of k structures is not 255: their least cuts are there.
@@ -14,22 +15,21 @@ abbrev pub Least : ℕ → ℕ → List ℕ → Type 0
 Least size k ws = (i : ℕ) → i < k → getD ws (i * size) 0 ≡ 255 → ⊥
 
 -- The structure at the front of w and b becomes the one at the front of w₂ and b₂, and nothing behind it changes.
-pub record Lowered (n e : ℕ) (starts w w₂ b b₂ : List ℕ) : Type 0 where
-  pub stands : (K : Computation) (counts offs values : List ℕ) → Laid K n e counts offs starts values
-      → structureAt n (full K) w₂ b₂ ∷ [] ≡ build K (below (greatest (structureAt n (full K) w b))) []
+pub record Lowered (x : Shape) (starts w w₂ b b₂ : List ℕ) : Type 0 where
+  pub stands : (K : Computation) → Laid K x starts → structureAt (x .n) (full K) w₂ b₂ ∷ [] ≡ build K (below (greatest (structureAt (x .n) (full K) w b))) []
   pub least : getD w₂ 0 0 ≡ 255 → ⊥
-  pub cells-behind : drop ((e + 1) * n) w₂ ≡ drop ((e + 1) * n) w
-  pub bars-behind : drop (16 * n) b₂ ≡ drop (16 * n) b
+  pub cells-behind : drop ((x .e + 1) * x .n) w₂ ≡ drop ((x .e + 1) * x .n) w
+  pub bars-behind : drop (16 * x .n) b₂ ≡ drop (16 * x .n) b
 
--- possibly
-pub record Possible (n e k : ℕ) (starts w w₂ b b₂ : List ℕ) : Type 0 where
-  pub stands : (K : Computation) (counts offs values : List ℕ) → Laid K n e counts offs starts values
-      → standing n (full K) k w₂ b₂ ≡ lowered K (standing n (full K) k w b)
-  pub least : Least ((e + 1) * n) k w₂
+-- possibly: of the k structures at the front; nothing behind them changes.
+pub record Possible (x : Shape) (k : ℕ) (starts w w₂ b b₂ : List ℕ) : Type 0 where
+  pub stands : (K : Computation) → Laid K x starts → standing (x .n) (full K) k w₂ b₂ ≡ lowered K (standing (x .n) (full K) k w b)
+  pub least : Least ((x .e + 1) * x .n) k w₂
+  pub cells-behind : drop (k * ((x .e + 1) * x .n)) w₂ ≡ drop (k * ((x .e + 1) * x .n)) w
+  pub bars-behind : drop (k * (16 * x .n)) b₂ ≡ drop (k * (16 * x .n)) b
 
 -- not possibly
-pub record Impossible (n e k r : ℕ) (starts w w₂ b b₂ : List ℕ) : Type 0 where
-  pub stands : (K : Computation) (counts offs values : List ℕ) → Laid K n e counts offs starts values
-      → standing n (full K) r w₂ b₂ ≡ barred K (standing n (full K) k w b)
-  pub least : Least ((e + 1) * n) r w₂
+pub record Impossible (x : Shape) (k r : ℕ) (starts w w₂ b b₂ : List ℕ) : Type 0 where
+  pub stands : (K : Computation) → Laid K x starts → standing (x .n) (full K) r w₂ b₂ ≡ barred K (standing (x .n) (full K) k w b)
+  pub least : Least ((x .e + 1) * x .n) r w₂
   pub few : r ≤ 1

@@ -1,31 +1,34 @@
 // The steps for possibly and not possibly.
+use structure::Shape;
 ghost use mathlib.Core.Path.{_≡_};
 ghost use mathlib.Core.List.{List};
 ghost use Prim.Native.Nat.{ℕ, _+_, _*_, _≤_, _<_};
 ghost use lib.ListN.{length, getD, take, drop, replicate};
 ghost use lib.Seq.{paste};
+ghost use Rattle.model.specs.Limits.{limits};
 ghost use Rattle.model.specs.Lists.{total};
 ghost use Rattle.model.specs.Structure.{greatest};
 ghost use Rattle.structure.specs.Layout.{structureAt};
+ghost use Rattle.structure.specs.Shaped.{Shaped};
 ghost use Rattle.steps.specs.Rows.{rowAt, belowRow};
 ghost use Rattle.modal.specs.Post.{Least, Lowered, Possible, Impossible};
 
 // Row i of all cuts that are contained in g.
-pub fn below_row(ws: &mut [u8], i: usize, n: usize, e: usize, g: &[u8], starts: &[u8])
+fn below_row(ws: &mut [u8], i: usize, n: usize, e: usize, g: &[u8], starts: &[u8])
     requires { ⌜ (i ≤ e) × (n ≤ length (now g)) × ((e + 1) * n ≤ length (now ws)) × ((e + 1) * n ≤ length (now starts)) ⌝ }
     ensures { λ _. ⌜ now (ws .exit) ≡ paste (now (ws .entry)) (i * n) (belowRow n (take n (now (g .entry))) (now (starts .entry)) i) n ⌝ }
 {
     let at = i * n;
-    if structure::contained(starts, at, g, 0, n) {
-        structure::copy(ws, at, starts, at, n);
+    if cells::contained(starts, at, g, 0, n) {
+        cells::copy(ws, at, starts, at, n);
     } else {
-        steps::fill(ws, at, n, 255);
+        cells::fill(ws, at, n, cells::NONE);
     }
 }
 
 // The rows of all cuts that are contained in g.
-pub fn below_rows(ws: &mut [u8], n: usize, e: usize, g: &[u8], starts: &[u8])
-    requires { ⌜ (n ≤ length (now g)) × ((e + 1) * n ≤ length (now ws)) × ((e + 1) * n ≤ length (now starts)) × (e ≤ 127) ⌝ }
+fn below_rows(ws: &mut [u8], n: usize, e: usize, g: &[u8], starts: &[u8])
+    requires { ⌜ (n ≤ length (now g)) × ((e + 1) * n ≤ length (now ws)) × ((e + 1) * n ≤ length (now starts)) × (e ≤ limits .events) ⌝ }
     ensures { λ _. ⌜ ((i : ℕ) → i ≤ e → rowAt n i (now (ws .exit)) ≡ belowRow n (take n (now (g .entry))) (now (starts .entry)) i)
         × (drop ((e + 1) * n) (now (ws .exit)) ≡ drop ((e + 1) * n) (now (ws .entry))) ⌝ }
 {
@@ -37,57 +40,67 @@ pub fn below_rows(ws: &mut [u8], n: usize, e: usize, g: &[u8], starts: &[u8])
 }
 
 // The structure at the front becomes all cuts contained in its greatest, with no bars.
-pub fn lower_one(ws: &mut [u8], bs: &mut [u8], n: usize, e: usize, starts: &[u8])
-    requires { ⌜ (0 < n) × (n ≤ 8) × (e ≤ 127) × ((e + 1) * n ≤ length (now ws)) × (16 * n ≤ length (now bs)) × ((e + 1) * n ≤ length (now starts)) × (rowAt n 0 (now starts) ≡ replicate n 0) ⌝ }
-    ensures { λ _. ⌜ Lowered n e (now (starts .entry)) (now (ws .entry)) (now (ws .exit)) (now (bs .entry)) (now (bs .exit)) ⌝ }
+fn lower_one(ws: &mut [u8], bs: &mut [u8], x: Shape, starts: &[u8])
+    requires { ⌜ Shaped x ⌝ }
+    requires { ⌜ ((x .e + 1) * x .n ≤ length (now ws)) × (16 * x .n ≤ length (now bs)) × ((x .e + 1) * x .n ≤ length (now starts)) × (rowAt (x .n) 0 (now starts) ≡ replicate (x .n) 0) ⌝ }
+    ensures { λ _. ⌜ Lowered x (now (starts .entry)) (now (ws .entry)) (now (ws .exit)) (now (bs .entry)) (now (bs .exit)) ⌝ }
 {
+    let n = x.n;
+    let e = x.e;
     let mut g = [0u8; 8];
     structure::greatest(ws, 0, n, e, &mut g);
     below_rows(ws, n, e, &g, starts);
-    bs[0] = 255;
+    bs[0] = cells::NONE;
 }
 
 // possibly: each of the count structures at the front becomes all cuts contained in its greatest.
-pub fn lower(ws: &mut [u8], bs: &mut [u8], count: usize, n: usize, e: usize, starts: &[u8])
-    requires { ⌜ (0 < n) × (n ≤ 8) × (e ≤ 127) × (count * ((e + 1) * n) ≤ length (now ws)) × (count * (16 * n) ≤ length (now bs)) × ((e + 1) * n ≤ length (now starts)) × (rowAt n 0 (now starts) ≡ replicate n 0) ⌝ }
-    ensures { λ _. ⌜ Possible n e count (now (starts .entry)) (now (ws .entry)) (now (ws .exit)) (now (bs .entry)) (now (bs .exit)) ⌝ }
+pub fn lower(ws: &mut [u8], bs: &mut [u8], count: usize, x: Shape, starts: &[u8])
+    requires { ⌜ Shaped x ⌝ }
+    requires { ⌜ (count * ((x .e + 1) * x .n) ≤ length (now ws)) × (count * (16 * x .n) ≤ length (now bs)) × ((x .e + 1) * x .n ≤ length (now starts)) × (rowAt (x .n) 0 (now starts) ≡ replicate (x .n) 0) ⌝ }
+    ensures { λ _. ⌜ Possible x count (now (starts .entry)) (now (ws .entry)) (now (ws .exit)) (now (bs .entry)) (now (bs .exit)) ⌝ }
 {
+    let n = x.n;
+    let e = x.e;
     let size = (e + 1) * n;
     let slot = 16 * n;
     let mut i = 0;
     while i < count {
         let k = i * size;
         let b = i * slot;
-        lower_one(&mut ws[k..], &mut bs[b..], n, e, starts);
+        lower_one(&mut ws[k..], &mut bs[b..], x, starts);
         i += 1;
     }
 }
 
 // The greatest cut of structure i goes to bar i of the first slot.
-pub fn bar_each(ws: &[u8], bs: &mut [u8], count: usize, n: usize, e: usize)
-    requires { ⌜ (0 < n) × (n ≤ 8) × (e ≤ 127) × (count ≤ 16) × (count * ((e + 1) * n) ≤ length (now ws)) × (16 * n ≤ length (now bs)) ⌝ }
+fn bar_each(ws: &[u8], bs: &mut [u8], count: usize, n: usize, e: usize)
+    requires { ⌜ (0 < n) × (n ≤ 8) × (e ≤ limits .events) × (count ≤ 16) × (count * ((e + 1) * n) ≤ length (now ws)) × (16 * n ≤ length (now bs)) ⌝ }
     ensures { λ _. ⌜ ((i : ℕ) → i < count → (counts b : List ℕ) → total counts ≡ e
-        → rowAt n i (now (bs .exit)) ≡ greatest (structureAt n counts (drop (i * ((e + 1) * n)) (now (ws .entry))) b)) ⌝ }
+        → rowAt n i (now (bs .exit)) ≡ greatest (structureAt n counts (drop (i * ((e + 1) * n)) (now (ws .entry))) b))
+        × (drop (count * n) (now (bs .exit)) ≡ drop (count * n) (now (bs .entry))) ⌝ }
 {
     let size = (e + 1) * n;
     let mut i = 0;
     while i < count {
         let mut g = [0u8; 8];
         structure::greatest(ws, i * size, n, e, &mut g);
-        structure::copy(bs, i * n, &g, 0, n);
+        cells::copy(bs, i * n, &g, 0, n);
         i += 1;
     }
 }
 
 // not possibly: all cuts, a bar at each structure's greatest cut; dropped if the full cut is contained in a bar.
-pub fn bar(ws: &mut [u8], bs: &mut [u8], count: usize, n: usize, e: usize, starts: &[u8]) -> usize
-    requires { ⌜ (0 < n) × (n ≤ 8) × (e ≤ 127) × (count ≤ 16) × (count * ((e + 1) * n) ≤ length (now ws)) × ((e + 1) * n ≤ length (now ws)) × (16 * n ≤ length (now bs)) × ((e + 1) * n ≤ length (now starts)) × (getD (now starts) 0 0 ≡ 255 → ⊥) ⌝ }
-    requires { ⌜ Least ((e + 1) * n) count (now ws) ⌝ }
-    ensures { λ r. ⌜ Impossible n e count r (now (starts .entry)) (now (ws .entry)) (now (ws .exit)) (now (bs .entry)) (now (bs .exit)) ⌝ }
+pub fn bar(ws: &mut [u8], bs: &mut [u8], count: usize, x: Shape, starts: &[u8]) -> usize
+    requires { ⌜ Shaped x ⌝ }
+    requires { ⌜ (count ≤ 16) × (count * ((x .e + 1) * x .n) ≤ length (now ws)) × ((x .e + 1) * x .n ≤ length (now ws)) × (16 * x .n ≤ length (now bs)) × ((x .e + 1) * x .n ≤ length (now starts)) × (getD (now starts) 0 0 ≡ 255 → ⊥) ⌝ }
+    requires { ⌜ Least ((x .e + 1) * x .n) count (now ws) ⌝ }
+    ensures { λ r. ⌜ Impossible x count r (now (starts .entry)) (now (ws .entry)) (now (ws .exit)) (now (bs .entry)) (now (bs .exit)) ⌝ }
 {
+    let n = x.n;
+    let e = x.e;
     bar_each(ws, bs, count, n, e);
     steps::end_bars(bs, 0, count, n);
-    structure::copy(ws, 0, starts, 0, (e + 1) * n);
+    cells::copy(ws, 0, starts, 0, (e + 1) * n);
     let mut g = [0u8; 8];
     structure::greatest(ws, 0, n, e, &mut g);
     if structure::barred(&g, bs, 0, n) {

@@ -8,19 +8,20 @@ use mathlib.Core.List.{List, []}
 use mathlib.Core.Bool.{Bool, true, false, cond}
 use mathlib.Core.Option.{Option, none, some}
 use lib.Dec.{leb}
-use lib.ListN.{length, getD, drop, getD-replicate, List·getD-map}
+use lib.ListN.{take, length, getD, drop, getD-replicate, List·getD-map}
 use lib.Seq.{getD-take, getD-drop}
 use borrow.Author.Tests.{eq-eqb, ne-eqb, leb-true, leb-false}
+use Rattle.model.specs.Lists.{total}
 use Rattle.model.specs.Cut.{Cut, _!_, empty, join}
 use Rattle.model.specs.Computation.{Computation, full, count, clock}
 use Rattle.model.specs.Atom.{next, upTo, raiseTo}
 use Rattle.model.specs.Structure.{build}
 use Rattle.structure.specs.Layout.{decoded, standing}
+use Rattle.structure.specs.declared.Shape.{Shape}
 use Rattle.structure.specs.Laid.{Laid}
 use Rattle.steps.specs.Rows.{rowAt, absent, coded, entry, eventRow, joinedRow, atomRow, Tabled, Leads}
 use Rattle.lattice.proofs.Cuts.{join-at}
 use Rattle.lattice.proofs.Sums.{total-take}
-use Rattle.structure.proofs.Places.{cells-are}
 use Rattle.structure.proofs.Rows.{decoded-none, decoded-some}
 use Rattle.steps.proofs.Laws.{event-fits, event-later}
 use Rattle.steps.proofs.Built.{first-row, clock-row, start-there, build-empty, build-there, keep-free, no-bars}
@@ -66,81 +67,82 @@ not-both x y f g h = go (leb x y) refl
     go true q = let a = leb-true x y q in g (omega arith)
     go false q = let a = leb-false x y q in f (omega arith)
 
-module _ (K : Computation) (n e : ℕ) (counts offs starts values : List ℕ) (laid : Laid K n e counts offs starts values) (s : ℕ) (h : s < n) where
-  pub count-is : getD counts s 0 ≡ count K s
-  count-is = sym (getD-take n counts s 0 h) ∙ ap (λ (l : List ℕ). getD l s 0) (laid .counts-are) ∙ List·getD-map length (K .events) s []
+module _ (K : Computation) (shape : Shape) (starts : List ℕ) (laid : Laid K shape starts) (s : ℕ) (h : s < shape .n) where
+  -- The events of all stations before s.
+  pub offs-is : getD (shape .offs) s 0 ≡ total (take s (full K))
+  offs-is = laid .shaped .offs-are s h ∙ ap (λ (c : List ℕ). total (take s c)) (laid .counts-are)
 
-  pub own-fit : getD offs s 0 + getD counts s 0 ≤ e
+  pub count-is : getD (shape .counts) s 0 ≡ count K s
+  count-is = sym (getD-take (shape .n) (shape .counts) s 0 h) ∙ ap (λ (l : List ℕ). getD l s 0) (laid .counts-are) ∙ List·getD-map length (K .events) s []
+
+  pub own-fit : getD (shape .offs) s 0 + getD (shape .counts) s 0 ≤ shape .e
   own-fit =
-      omega (arith, total-take (full K) s, laid .offs-are s h, laid .counted, sym (getD-take n counts s 0 h) ∙ ap (λ (l : List ℕ). getD l s 0) (laid .counts-are))
+      omega (arith, total-take (full K) s, offs-is, laid .counted, sym (getD-take (shape .n) (shape .counts) s 0 h) ∙ ap (λ (l : List ℕ). getD l s 0) (laid .counts-are))
 
-  pub starts-fit : (e + 1) * n ≤ length starts
-  starts-fit = rw (← cells-are n e (full K) (laid .counted)) (laid .starts-fit)
-
-  event-row-is : (j : ℕ) → j ≤ count K s → rowAt n (eventRow (getD offs s 0) j) starts ≡ clock K s j
+  event-row-is : (j : ℕ) → j ≤ count K s → rowAt (shape .n) (eventRow (getD (shape .offs) s 0) j) starts ≡ clock K s j
   unfolding eventRow clock
-  event-row-is zero a = first-row K n e counts offs starts values laid ∙ ap empty (sym (laid .stationed))
+  event-row-is zero a = first-row K shape starts laid ∙ ap empty (sym (laid .stationed))
   event-row-is (suc j) a =
-      ap (λ (x : ℕ). rowAt n x starts) (event-later (getD offs s 0) (suc j) (omega arith)) ∙ ap (λ (x : ℕ). rowAt n (x + suc j) starts) (laid .offs-are s h) ∙ clock-row K n e counts offs starts values laid s (suc j) a (omega arith)
+      ap (λ (x : ℕ). rowAt (shape .n) x starts) (event-later (getD (shape .offs) s 0) (suc j) (omega arith)) ∙ ap (λ (x : ℕ). rowAt (shape .n) (x + suc j) starts) offs-is ∙ clock-row K shape starts laid s (suc j) a (omega arith)
 
   -- A test p of the station's events, and q the same of what stands in the tables.
-  module _ (p q : ℕ → Bool) (same : (j : ℕ) → j ≤ getD counts s 0 → p j ≡ q j) (table : List ℕ)
-      (tab : (k : ℕ) → k < 256 → getD table k 0 ≡ entry q (getD counts s 0) k) where
-    pub tabled : Tabled n e s (getD offs s 0) table (length starts)
+  module _ (p q : ℕ → Bool) (same : (j : ℕ) → j ≤ getD (shape .counts) s 0 → p j ≡ q j) (table : List ℕ)
+      (tab : (k : ℕ) → k < 256 → getD table k 0 ≡ entry q (getD (shape .counts) s 0) k) where
+    pub tabled : Tabled (shape .n) (shape .e) s (getD (shape .offs) s 0) table (length starts)
     tabled = record {
       station = h;
-      few-stations = laid .few-stations;
-      few-events = laid .few-events;
+      few-stations = laid .shaped .few-stations;
+      few-events = laid .shaped .few-events;
       before = omega (arith, own-fit);
-      starts-fit = starts-fit;
-      reach = λ k a f. ⊎-elim (λ r. absurd (f (tab k a ∙ r .0))) (λ r. omega (arith, tab k a, r .1, r .2, own-fit)) (entry-place q (getD counts s 0) k);
+      starts-fit = laid .starts-fit;
+      reach = λ k a f. ⊎-elim (λ r. absurd (f (tab k a ∙ r .0))) (λ r. omega (arith, tab k a, r .1, r .2, own-fit)) (entry-place q (getD (shape .counts) s 0) k);
     }
 
-    raise-is : (i : ℕ) → raiseTo K s p (rowAt n i starts)
-        ≡ upTo K s (rowAt n i starts) (next q (suc (getD counts s 0) - getD starts (i * n + s) 0) (getD starts (i * n + s) 0))
+    raise-is : (i : ℕ) → raiseTo K s p (rowAt (shape .n) i starts)
+        ≡ upTo K s (rowAt (shape .n) i starts) (next q (suc (getD (shape .counts) s 0) - getD starts (i * shape .n + s) 0) (getD starts (i * shape .n + s) 0))
     unfolding raiseTo
     raise-is i =
-        let x : rowAt n i starts ! s ≡ getD starts (i * n + s) 0 = getD-take n (drop (i * n) starts) s 0 h ∙ getD-drop (i * n) starts s 0 in
-        ap₂ (λ (y z : ℕ). upTo K s (rowAt n i starts) (next p (suc z - y) y)) x (sym count-is)
-        ∙ ap (upTo K s (rowAt n i starts))
-        (next-same p q (suc (getD counts s 0) - getD starts (i * n + s) 0) (getD starts (i * n + s) 0) (λ j u v. same j (omega arith)))
+        let x : rowAt (shape .n) i starts ! s ≡ getD starts (i * shape .n + s) 0 = getD-take (shape .n) (drop (i * shape .n) starts) s 0 h ∙ getD-drop (i * shape .n) starts s 0 in
+        ap₂ (λ (y z : ℕ). upTo K s (rowAt (shape .n) i starts) (next p (suc z - y) y)) x (sym count-is)
+        ∙ ap (upTo K s (rowAt (shape .n) i starts))
+        (next-same p q (suc (getD (shape .counts) s 0) - getD starts (i * shape .n + s) 0) (getD starts (i * shape .n + s) 0) (λ j u v. same j (omega arith)))
 
-    pub leads : ((i : ℕ) → getD starts (i * n + s) 0 < 256) → Leads n e s (getD offs s 0) table starts (raiseTo K s p)
+    pub leads : ((i : ℕ) → getD starts (i * shape .n + s) 0 < 256) → Leads (shape .n) (shape .e) s (getD (shape .offs) s 0) table starts (raiseTo K s p)
     unfolding atomRow joinedRow upTo
-    leads byte i a = go (entry-place q (getD counts s 0) x)
+    leads byte i a = go (entry-place q (getD (shape .counts) s 0) x)
       where
         x : ℕ
-        x = getD starts (i * n + s) 0
+        x = getD starts (i * shape .n + s) 0
 
         c : Cut
-        c = rowAt n i starts
+        c = rowAt (shape .n) i starts
 
         u : x < 256
         u = byte i
 
-        go : ((entry q (getD counts s 0) x ≡ 255) × (next q (suc (getD counts s 0) - x) x ≡ none)) ⊎ ((j : ℕ) × (j ≤ getD counts s 0) × (entry q (getD counts s 0) x ≡ j) × (next q (suc (getD counts s 0) - x) x ≡ some j))
-            → decoded (joinedRow n (getD offs s 0) starts i (getD table x 0)) ≡ raiseTo K s p c
+        go : ((entry q (getD (shape .counts) s 0) x ≡ 255) × (next q (suc (getD (shape .counts) s 0) - x) x ≡ none)) ⊎ ((j : ℕ) × (j ≤ getD (shape .counts) s 0) × (entry q (getD (shape .counts) s 0) x ≡ j) × (next q (suc (getD (shape .counts) s 0) - x) x ≡ some j))
+            → decoded (joinedRow (shape .n) (getD (shape .offs) s 0) starts i (getD table x 0)) ≡ raiseTo K s p c
         go (inl (f, g)) =
-            rw (raise-is i, g, eq-eqb (getD table x 0) 255 (tab x u ∙ f)) (decoded-none (absent n) (getD-replicate n 0 255 0 (laid .some-station)))
+            rw (raise-is i, g, eq-eqb (getD table x 0) 255 (tab x u ∙ f)) (decoded-none (absent (shape .n)) (getD-replicate (shape .n) 0 255 0 (laid .shaped .some-station)))
         go (inr (j, f, g, r)) =
             let t : getD table x 0 ≡ j = tab x u ∙ g in
-            let z : j ≡ 255 → ⊥ = λ m. omega (arith, own-fit, laid .few-events) in
-            let d : rowAt n (eventRow (getD offs s 0) j) starts ≡ clock K s j = event-row-is j (omega (arith, count-is)) in
-            let y : eventRow (getD offs s 0) j ≤ e = omega (arith, event-fits (getD offs s 0) j, own-fit) in
+            let z : j ≡ 255 → ⊥ = λ m. omega (arith, own-fit, laid .shaped .few-events) in
+            let d : rowAt (shape .n) (eventRow (getD (shape .offs) s 0) j) starts ≡ clock K s j = event-row-is j (omega (arith, count-is)) in
+            let y : eventRow (getD (shape .offs) s 0) j ≤ shape .e = omega (arith, event-fits (getD (shape .offs) s 0) j, own-fit) in
             let v : getD (join c (clock K s j)) 0 0 ≡ 255 → ⊥ =
-            λ m. not-both _ _ (start-there K n e counts offs starts values laid i a) (λ w. start-there K n e counts offs starts values laid (eventRow (getD offs s 0) j) y (ap (λ (l : List ℕ). getD l 0 0) d ∙ w)) (sym (join-at c (clock K s j) 0) ∙ m) in
+            λ m. not-both _ _ (start-there K shape starts laid i a) (λ w. start-there K shape starts laid (eventRow (getD (shape .offs) s 0) j) y (ap (λ (l : List ℕ). getD l 0 0) d ∙ w)) (sym (join-at c (clock K s j) 0) ∙ m) in
             rw (raise-is i, r, t, ne-eqb j 255 z, d) (decoded-some (join c (clock K s j)) v)
 
 -- THE STRUCTURE
 
-module _ (K : Computation) (n e : ℕ) (counts offs starts values : List ℕ) (laid : Laid K n e counts offs starts values) (s off : ℕ) (table : List ℕ)
-    (f : Cut → Option Cut) (lead : Leads n e s off table starts f) (w bs : List ℕ) (rows : (i : ℕ) → i ≤ e → rowAt n i w ≡ atomRow n s off table starts i) where
-  pub atom-dropped : getD w 0 0 ≡ 255 → standing n (full K) 0 w bs ≡ build K f []
+module _ (K : Computation) (shape : Shape) (starts : List ℕ) (laid : Laid K shape starts) (s off : ℕ) (table : List ℕ)
+    (f : Cut → Option Cut) (lead : Leads (shape .n) (shape .e) s off table starts f) (w bs : List ℕ) (rows : (i : ℕ) → i ≤ shape .e → rowAt (shape .n) i w ≡ atomRow (shape .n) s off table starts i) where
+  pub atom-dropped : getD w 0 0 ≡ 255 → standing (shape .n) (full K) 0 w bs ≡ build K f []
   unfolding standing
-  atom-dropped z = sym (build-empty K n e counts offs starts values laid f w (λ i a. ap decoded (rows i a) ∙ lead i a) [] z)
+  atom-dropped z = sym (build-empty K shape starts laid f w (λ i a. ap decoded (rows i a) ∙ lead i a) [] z)
 
-  pub atom-kept : (getD w 0 0 ≡ 255 → ⊥) → getD bs 0 0 ≡ 255 → standing n (full K) 1 w bs ≡ build K f []
+  pub atom-kept : (getD w 0 0 ≡ 255 → ⊥) → getD bs 0 0 ≡ 255 → standing (shape .n) (full K) 1 w bs ≡ build K f []
   unfolding standing
   atom-kept z y =
-      rw (no-bars n bs y)
-      (sym (build-there K n e counts offs starts values laid f w (λ i a. ap decoded (rows i a) ∙ lead i a) [] z ∙ keep-free _ _))
+      rw (no-bars (shape .n) bs y)
+      (sym (build-there K shape starts laid f w (λ i a. ap decoded (rows i a) ∙ lead i a) [] z ∙ keep-free _ _))

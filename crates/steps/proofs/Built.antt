@@ -15,6 +15,7 @@ use Rattle.model.specs.Cut.{Cut, empty, insideAny}
 use Rattle.model.specs.Computation.{Computation, Event, stations, full, count, noEvent, clock}
 use Rattle.model.specs.Structure.{keep, build, buildOn}
 use Rattle.structure.specs.Layout.{decoded, rowsAt, stationsAt, barsAt}
+use Rattle.structure.specs.declared.Shape.{Shape}
 use Rattle.structure.specs.Laid.{Laid}
 use Rattle.structure.proofs.Rows.{decoded-none, decoded-some, decoded-is}
 use Rattle.steps.specs.Rows.{rowAt}
@@ -95,48 +96,48 @@ module _ (n : ℕ) where
 
 -- A COMPUTATION LAID OUT
 
-module _ (K : Computation) (n e : ℕ) (counts offs starts values : List ℕ) (laid : Laid K n e counts offs starts values) where
-  pub first-row : rowAt n 0 starts ≡ empty n
-  first-row = row-zero n starts ∙ laid .starts-least
+module _ (K : Computation) (shape : Shape) (starts : List ℕ) (laid : Laid K shape starts) where
+  pub first-row : rowAt (shape .n) 0 starts ≡ empty (shape .n)
+  first-row = row-zero (shape .n) starts ∙ laid .starts-least
 
-  pub later-rows : stationsAt n (full K) (drop n starts) ≡ map clocks (K .events)
+  pub later-rows : stationsAt (shape .n) (full K) (drop (shape .n) starts) ≡ map clocks (K .events)
   later-rows = laid .starts-rows
 
   -- The clock of event k of station s, where the code finds it.
-  pub clock-row : (s k : ℕ) → k ≤ count K s → 0 < k → rowAt n (total (take s (full K)) + k) starts ≡ clock K s k
+  pub clock-row : (s k : ℕ) → k ≤ count K s → 0 < k → rowAt (shape .n) (total (take s (full K)) + k) starts ≡ clock K s k
   unfolding clock
   clock-row s zero h p = absurd (not-suc-le-zero p)
   clock-row s (suc k) h p =
       let t : ℕ = total (take s (full K)) in
       let z : t + suc k ≡ suc (t + k) = omega arith in
-      ap (λ (x : ℕ). rowAt n x starts) z ∙ row-suc n (t + k) starts
-      ∙ decoded-is _ _ (clock-there n (K .events) (drop n starts) later-rows s k h)
+      ap (λ (x : ℕ). rowAt (shape .n) x starts) z ∙ row-suc (shape .n) (t + k) starts
+      ∙ decoded-is _ _ (clock-there (shape .n) (K .events) (drop (shape .n) starts) later-rows s k h)
 
   -- The first cell of no start is 255.
-  pub start-there : (i : ℕ) → i ≤ e → getD (rowAt n i starts) 0 0 ≡ 255 → ⊥
+  pub start-there : (i : ℕ) → i ≤ shape .e → getD (rowAt (shape .n) i starts) 0 0 ≡ 255 → ⊥
   start-there zero h f =
-      let z : _≡_ {A = ℕ} 0 255 = sym (lib.ListN.getD-replicate n 0 0 0 (laid .some-station)) ∙ ap (λ (x : List ℕ). getD x 0 0) (sym first-row) ∙ f in
+      let z : _≡_ {A = ℕ} 0 255 = sym (lib.ListN.getD-replicate (shape .n) 0 0 0 (laid .shaped .some-station)) ∙ ap (λ (x : List ℕ). getD x 0 0) (sym first-row) ∙ f in
       omega arith
   start-there (suc i) h f =
-      let r = each-there n (K .events) (drop n starts) later-rows i (omega (arith, laid .counted)) in
-      first-there (rowAt n i (drop n starts)) (r .0) (r .1) (ap (λ (x : List ℕ). getD x 0 0) (sym (row-suc n i starts)) ∙ f)
+      let r = each-there (shape .n) (K .events) (drop (shape .n) starts) later-rows i (omega (arith, laid .counted)) in
+      first-there (rowAt (shape .n) i (drop (shape .n) starts)) (r .0) (r .1) (ap (λ (x : List ℕ). getD x 0 0) (sym (row-suc (shape .n) i starts)) ∙ f)
 
-  module _ (f : Cut → Option Cut) (w : List ℕ) (rows : (i : ℕ) → i ≤ e → decoded (rowAt n i w) ≡ f (rowAt n i starts)) where
-    least-is : f (empty (stations K)) ≡ decoded (take n w)
-    least-is = sym (ap decoded (sym (row-zero n w)) ∙ rows 0 (omega arith) ∙ ap f (first-row ∙ ap empty (sym (laid .stationed))))
+  module _ (f : Cut → Option Cut) (w : List ℕ) (rows : (i : ℕ) → i ≤ shape .e → decoded (rowAt (shape .n) i w) ≡ f (rowAt (shape .n) i starts)) where
+    least-is : f (empty (stations K)) ≡ decoded (take (shape .n) w)
+    least-is = sym (ap decoded (sym (row-zero (shape .n) w)) ∙ rows 0 (omega arith) ∙ ap f (first-row ∙ ap empty (sym (laid .stationed))))
 
-    rows-are : stationsAt n (full K) (drop n w) ≡ map (map (λ (x : Event). f (x .clock))) (K .events)
-    rows-are = stations-built n f (K .events) (drop n starts) (drop n w) later-rows
-        (λ i h. ap decoded (sym (row-suc n i w)) ∙ rows (suc i) (omega (arith, laid .counted)) ∙ ap f (row-suc n i starts))
+    rows-are : stationsAt (shape .n) (full K) (drop (shape .n) w) ≡ map (map (λ (x : Event). f (x .clock))) (K .events)
+    rows-are = stations-built (shape .n) f (K .events) (drop (shape .n) starts) (drop (shape .n) w) later-rows
+        (λ i h. ap decoded (sym (row-suc (shape .n) i w)) ∙ rows (suc i) (omega (arith, laid .counted)) ∙ ap f (row-suc (shape .n) i starts))
 
     pub build-empty : (bars : List Cut) → getD w 0 0 ≡ 255 → build K f bars ≡ []
     unfolding build buildOn
-    build-empty bars h = rw (least-is, decoded-none (take n w) (getD-take n w 0 0 (laid .some-station) ∙ h))
+    build-empty bars h = rw (least-is, decoded-none (take (shape .n) w) (getD-take (shape .n) w 0 0 (laid .shaped .some-station) ∙ h))
 
     pub build-there : (bars : List Cut) → (getD w 0 0 ≡ 255 → ⊥)
-        → build K f bars ≡ keep (record { least = take n w; rows = stationsAt n (full K) (drop n w); bars = bars })
+        → build K f bars ≡ keep (record { least = take (shape .n) w; rows = stationsAt (shape .n) (full K) (drop (shape .n) w); bars = bars })
     unfolding build buildOn
-    build-there bars h = rw (least-is, decoded-some (take n w) (λ g. h (sym (getD-take n w 0 0 (laid .some-station)) ∙ g)), rows-are)
+    build-there bars h = rw (least-is, decoded-some (take (shape .n) w) (λ g. h (sym (getD-take (shape .n) w 0 0 (laid .shaped .some-station)) ∙ g)), rows-are)
 
 -- With no bars nothing is dropped.
 pub keep-free : (c : Cut) (r : List (List (Option Cut))) → keep (record { least = c; rows = r; bars = [] }) ≡ record { least = c; rows = r; bars = [] } ∷ []

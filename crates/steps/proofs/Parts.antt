@@ -9,7 +9,8 @@ use lib.Dec.{ltb}
 use lib.ListN.{length, take, drop, set}
 use lib.Seq.{paste, drop-drop, take-all, take-set-le, drop-set-lt, getD-set-same}
 use borrow.Author.Tests.{ltb-true, ltb-false}
-use Rattle.structure.proofs.Parts.{part-same, paste-front, paste-part}
+use Rattle.model.specs.Limits.{limits, startsSize}
+use Rattle.cells.proofs.Parts.{part-same, paste-front, paste-part}
 use Rattle.structure.proofs.Places.{next-fits}
 use Rattle.steps.specs.Rows.{rowAt, Ended}
 
@@ -50,7 +51,7 @@ module _ (at k n : ℕ) (b : List ℕ) where
       record {
         front = take-set-le (at + k * n) b (at + k * n) 255 (omega arith);
         ends = λ _. getD-set-same b (at + k * n) 255 0 (omega arith);
-        behind = drop-set-lt (at + 16 * n) b (at + k * n) 255 (omega arith);
+        behind = drop-set-lt (at + k * n + 1) b (at + k * n) 255 (omega arith);
       }
 
   pub ended-full : (k < 16 → ⊥) → Ended at k n b b
@@ -58,6 +59,6 @@ module _ (at k n : ℕ) (b : List ℕ) where
 
 -- SIZES
 
--- A structure has at most 1,024 cells.
-pub size-small : (e n : ℕ) → e ≤ 127 → n ≤ 8 → (e + 1) * n ≤ 1024
-size-small e n h k = mul-le-mul (let g : e + 1 ≤ 128 = omega arith in g) k
+-- A structure's cells are few.
+pub size-small : (e n : ℕ) → e ≤ limits .events → n ≤ limits .stations → (e + 1) * n ≤ startsSize
+size-small e n h k = mul-le-mul (let g : e + 1 ≤ suc (limits .events) = omega arith in g) k

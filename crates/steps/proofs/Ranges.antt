@@ -10,7 +10,8 @@ use Rattle.model.specs.Lists.{between}
 use Rattle.model.specs.Computation.{Computation, count, value}
 use Rattle.model.specs.Atom.{passes, raiseAtom}
 use Rattle.model.specs.Atom.Atom.{inRange}
-use Rattle.structure.specs.Laid.{Laid}
+use Rattle.structure.specs.declared.Shape.{Shape}
+use Rattle.structure.specs.Laid.{Laid, Facts}
 use Rattle.steps.specs.Rows.{entry, Tabled, Leads}
 use Rattle.steps.proofs.Atoms as atoms
 
@@ -33,23 +34,24 @@ passes-in false lo hi v h k = rw (le-leb lo v h, le-leb v hi k)
 
 -- THE TABLE
 
-module _ (K : Computation) (n e : ℕ) (counts offs starts values : List ℕ) (laid : Laid K n e counts offs starts values) (s : ℕ) (h : s < n) where
-  pub values-fit : getD offs s 0 + s + getD counts s 0 < length values
-  values-fit = omega (arith, atoms.own-fit K n e counts offs starts values laid s h, laid .values-fit)
+module _ (K : Computation) (shape : Shape) (starts : List ℕ) (laid : Laid K shape starts) (s : ℕ) (h : s < shape .n)
+    (values : List ℕ) (facts : Facts K shape values) where
+  pub values-fit : getD (shape .offs) s 0 + s + getD (shape .counts) s 0 < length values
+  values-fit = omega (arith, atoms.own-fit K shape starts laid s h, facts .values-fit)
 
   module _ (b : Bool) (lo hi : ℕ) (table : List ℕ)
-      (tab : (k : ℕ) → k < 256 → getD table k 0 ≡ entry (λ j. passes b lo hi (getD values (getD offs s 0 + s + j) 0)) (getD counts s 0) k) where
+      (tab : (k : ℕ) → k < 256 → getD table k 0 ≡ entry (λ j. passes b lo hi (getD values (getD (shape .offs) s 0 + s + j) 0)) (getD (shape .counts) s 0) k) where
     abbrev seen : ℕ → Bool
-    seen j = passes b lo hi (getD values (getD offs s 0 + s + j) 0)
+    seen j = passes b lo hi (getD values (getD (shape .offs) s 0 + s + j) 0)
 
-    value-same : (j : ℕ) → j ≤ getD counts s 0 → passes b lo hi (value K s j) ≡ seen j
+    value-same : (j : ℕ) → j ≤ getD (shape .counts) s 0 → passes b lo hi (value K s j) ≡ seen j
     value-same j a =
-        let c : j ≤ count K s = omega (arith, atoms.count-is K n e counts offs starts values laid s h) in
-        ap (passes b lo hi) (sym (laid .values-are s j h c) ∙ ap (λ (x : ℕ). getD values (x + s + j) 0) (sym (laid .offs-are s h)))
+        let c : j ≤ count K s = omega (arith, atoms.count-is K shape starts laid s h) in
+        ap (passes b lo hi) (sym (facts .values-are s j h c) ∙ ap (λ (x : ℕ). getD values (x + s + j) 0) (sym (atoms.offs-is K shape starts laid s h)))
 
-    pub range-tabled : Tabled n e s (getD offs s 0) table (length starts)
-    range-tabled = atoms.tabled K n e counts offs starts values laid s h (λ j. passes b lo hi (value K s j)) seen value-same table tab
+    pub range-tabled : Tabled (shape .n) (shape .e) s (getD (shape .offs) s 0) table (length starts)
+    range-tabled = atoms.tabled K shape starts laid s h (λ j. passes b lo hi (value K s j)) seen value-same table tab
 
-    pub range-leads : ((i : ℕ) → getD starts (i * n + s) 0 < 256) → Leads n e s (getD offs s 0) table starts (raiseAtom K b (inRange s lo hi))
+    pub range-leads : ((i : ℕ) → getD starts (i * shape .n + s) 0 < 256) → Leads (shape .n) (shape .e) s (getD (shape .offs) s 0) table starts (raiseAtom K b (inRange s lo hi))
     unfolding raiseAtom
-    range-leads = atoms.leads K n e counts offs starts values laid s h (λ j. passes b lo hi (value K s j)) seen value-same table tab
+    range-leads = atoms.leads K shape starts laid s h (λ j. passes b lo hi (value K s j)) seen value-same table tab

@@ -6,6 +6,7 @@ use mathlib.Core.List.{List}
 use mathlib.Core.Option.{Option, none, some}
 use lib.Dec.{eqb}
 use lib.ListN.{getD, take, drop, replicate}
+use Rattle.model.specs.Limits.{limits}
 use Rattle.model.specs.Cut.{Cut, inside, join}
 use Rattle.model.specs.Atom.{next}
 use Rattle.structure.specs.Layout.{decoded}
@@ -46,8 +47,8 @@ belowRow n g starts i = cond (inside (rowAt n i starts) g) (rowAt n i starts) (a
 -- A table that leads to rows that stand there: the station s, off events before its own.
 pub record Tabled (n e s off : ℕ) (table : List ℕ) (m : ℕ) : Type 0 where
   pub station : s < n
-  pub few-stations : n ≤ 8
-  pub few-events : e ≤ 127
+  pub few-stations : n ≤ limits .stations
+  pub few-events : e ≤ limits .events
   pub before : off ≤ e
   pub starts-fit : (e + 1) * n ≤ m
   pub reach : (k : ℕ) → k < 256 → (getD table k 0 ≡ 255 → ⊥) → off + getD table k 0 ≤ e
@@ -56,8 +57,8 @@ pub record Tabled (n e s off : ℕ) (table : List ℕ) (m : ℕ) : Type 0 where
 abbrev pub Leads : (n e s off : ℕ) (table starts : List ℕ) → (Cut → Option Cut) → Type 0
 Leads n e s off table starts f = (i : ℕ) → i ≤ e → decoded (atomRow n s off table starts i) ≡ f (rowAt n i starts)
 
--- count bars at a place, and the first slot behind them not used; the rest is as before.
+-- count bars at a place, and the first slot behind them not used; all other cells are as before.
 pub record Ended (at count n : ℕ) (b b₂ : List ℕ) : Type 0 where
   pub front : take (at + count * n) b₂ ≡ take (at + count * n) b
   pub ends : count < 16 → getD b₂ (at + count * n) 0 ≡ 255
-  pub behind : drop (at + 16 * n) b₂ ≡ drop (at + 16 * n) b
+  pub behind : drop (at + count * n + 1) b₂ ≡ drop (at + count * n + 1) b

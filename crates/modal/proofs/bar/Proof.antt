@@ -40,8 +40,8 @@ same-length-2 c = search needs
 returns : tie.Need-returns
 returns c =
     let a = c .before .before .before .before .before .before .before .before .before .before .before .before .before .before .before .before .before .before .before .before .before .before .before .before .args in
-    let p = c .before .before .before .before .before .before .before .before .before .before .before .before .before .before .before .before .before .before .before .before .before .before .before .before .pre .0 in
-    laws.bar-dropped (a .n) (a .e) (a .count) (a .starts .now) (a .ws .now) (c .before .before .before .before .before .before .before .before .before .before .copy .last .0) (a .bs .now) (c .before .before .before .before .before .before .before .before .before .before .before .before .before .before .before .before .before .before .bar-each .last .1 .0) (c .before .before .before .before .before .before .before .before .before .before .before .before .before .before .end-bars .last .0) (p .0) (p .3) (p .7) (p .8) (c .before .before .before .before .before .before .before .before .before .before .before .before .before .before .before .before .before .before .before .before .before .before .before .before .pre .1) (c .before .before .before .before .before .before .before .before .before .before .before .before .before .before .before .before .before .before .bar-each .ensures) (c .before .before .before .before .before .before .before .before .before .before .before .before .before .before .end-bars .ensures) (c .before .before .before .before .before .before .before .before .before .before .copy .ensures) (c .before .before .before .before .before .greatest .last .1 .1 .1 .1 .0) (c .before .barred .result) (c .before .before .before .before .before .greatest .ensures) (c .before .barred .ensures) (c .if1 .taken)
+    let p = c .before .before .before .before .before .before .before .before .before .before .before .before .before .before .before .before .before .before .before .before .before .before .before .before .pre in
+    laws.bar-dropped (a .x) (a .count) (a .starts .now) (a .ws .now) (c .before .before .before .before .before .before .before .before .before .before .copy .last .0) (a .bs .now) (c .before .before .before .before .before .before .before .before .before .before .before .before .before .before .before .before .before .before .bar-each .last .1 .0) (c .before .before .before .before .before .before .before .before .before .before .before .before .before .before .end-bars .last .0) (p .0 .some-station) (p .1 .0 .0) (p .1 .0 .4) (p .1 .0 .5) (p .1 .1) (c .before .before .before .before .before .before .before .before .before .before .before .before .before .before .before .before .before .before .bar-each .ensures .0) (c .before .before .before .before .before .before .before .before .before .before .before .before .before .before .end-bars .ensures) (c .before .before .before .before .before .before .before .before .before .before .copy .ensures) (c .before .before .before .before .before .greatest .last .1 .1 .1 .1 .0) (c .before .barred .result) (c .before .before .before .before .before .greatest .ensures) (c .before .barred .ensures) (c .if1 .taken)
 
 same-length-3 : tie.Need-same-length-3
 same-length-3 c = search needs
@@ -52,8 +52,8 @@ same-length-4 c = search needs
 returns-2 : tie.Need-returns-2
 returns-2 c =
     let a = c .before .before .before .before .before .before .before .before .before .before .before .before .before .before .before .before .before .before .before .before .before .before .before .before .args in
-    let p = c .before .before .before .before .before .before .before .before .before .before .before .before .before .before .before .before .before .before .before .before .before .before .before .before .pre .0 in
-    laws.bar-kept (a .n) (a .e) (a .count) (a .starts .now) (a .ws .now) (c .before .before .before .before .before .before .before .before .before .before .copy .last .0) (a .bs .now) (c .before .before .before .before .before .before .before .before .before .before .before .before .before .before .before .before .before .before .bar-each .last .1 .0) (c .before .before .before .before .before .before .before .before .before .before .before .before .before .before .end-bars .last .0) (p .0) (p .3) (p .7) (p .8) (c .before .before .before .before .before .before .before .before .before .before .before .before .before .before .before .before .before .before .before .before .before .before .before .before .pre .1) (c .before .before .before .before .before .before .before .before .before .before .before .before .before .before .before .before .before .before .bar-each .ensures) (c .before .before .before .before .before .before .before .before .before .before .before .before .before .before .end-bars .ensures) (c .before .before .before .before .before .before .before .before .before .before .copy .ensures) (c .before .before .before .before .before .greatest .last .1 .1 .1 .1 .0) (c .before .barred .result) (c .before .before .before .before .before .greatest .ensures) (c .before .barred .ensures) (c .if1 .left)
+    let p = c .before .before .before .before .before .before .before .before .before .before .before .before .before .before .before .before .before .before .before .before .before .before .before .before .pre in
+    laws.bar-kept (a .x) (a .count) (a .starts .now) (a .ws .now) (c .before .before .before .before .before .before .before .before .before .before .copy .last .0) (a .bs .now) (c .before .before .before .before .before .before .before .before .before .before .before .before .before .before .before .before .before .before .bar-each .last .1 .0) (c .before .before .before .before .before .before .before .before .before .before .before .before .before .before .end-bars .last .0) (p .0 .some-station) (p .1 .0 .0) (p .1 .0 .4) (p .1 .0 .5) (p .1 .1) (c .before .before .before .before .before .before .before .before .before .before .before .before .before .before .before .before .before .before .bar-each .ensures .0) (c .before .before .before .before .before .before .before .before .before .before .before .before .before .before .end-bars .ensures) (c .before .before .before .before .before .before .before .before .before .before .copy .ensures) (c .before .before .before .before .before .greatest .last .1 .1 .1 .1 .0) (c .before .barred .result) (c .before .before .before .before .before .greatest .ensures) (c .before .barred .ensures) (c .if1 .left)
 
 pub bar-spec : {M : Type 1} → statement M
 bar-spec =

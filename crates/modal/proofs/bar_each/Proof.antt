@@ -18,7 +18,7 @@ use Rattle.modal.proofs.bar_each.Tie as tie
 
 abbrev Inv-loop : tie.InvT-loop
 Inv-loop ws bs₀ count n e size i₀ bs i =
-    (i ≤ count) × (length bs ≡ length bs₀) × ((r : ℕ) → r < i → (counts b : List ℕ) → total counts ≡ e → rowAt n r bs ≡ greatest (structureAt n counts (drop (r * ((e + 1) * n)) ws) b))
+    (i ≤ count) × (length bs ≡ length bs₀) × ((r : ℕ) → r < i → (counts b : List ℕ) → total counts ≡ e → rowAt n r bs ≡ greatest (structureAt n counts (drop (r * ((e + 1) * n)) ws) b)) × (drop (i * n) bs ≡ drop (i * n) bs₀)
 
 abbrev μ-loop : tie.MeasureT-loop
 μ-loop ws bs₀ count n e size i₀ bs i = count - i
@@ -32,7 +32,7 @@ mul-size c =
     omega (arith, size-small (a .e) (a .n) (c .before .before .pre .2) (c .before .before .pre .1))
 
 loop-holds : tie.Need-loop-holds Inv-loop μ-loop
-loop-holds c = (omega arith, refl, λ r h. absurd (not-suc-le-zero h))
+loop-holds c = (omega arith, refl, (λ r h. absurd (not-suc-le-zero h)), refl)
 
 mul-greatest : tie.Need-mul-greatest Inv-loop μ-loop
 mul-greatest c =
@@ -77,13 +77,15 @@ loop-again c =
     let v = c .before .before .before .before .before .before .before .before .before .loop in
     let l : length (c .before .before .before .before .before .before .greatest .last .1 .1 .1 .1 .0) ≡ 8 = c .before .before .before .before .before .before .greatest .kept .1 .1 .1 .1 .0 in
     let h : v .i < 16 = omega (arith, c .before .before .before .before .before .before .before .before .loop-test .taken, p .3) in
-    (omega arith, c .before .before .copy .kept .0 ∙ v .inv .1, laws.bars-turn (a .n) (a .e) (v .i) (a .ws .now) (v .bs) (c .before .before .copy .last .0) (c .before .before .before .before .before .before .greatest .last .1 .1 .1 .1 .0) (omega (arith, next-fits (v .i) 16 (a .n) h, p .5, v .inv .1)) l (p .1) (c .before .before .before .before .before .before .greatest .ensures) (c .before .before .copy .ensures) (v .inv .2))
+    (omega arith, c .before .before .copy .kept .0 ∙ v .inv .1, laws.bars-turn (a .n) (a .e) (v .i) (a .ws .now) (v .bs) (c .before .before .copy .last .0) (c .before .before .before .before .before .before .greatest .last .1 .1 .1 .1 .0) (omega (arith, next-fits (v .i) 16 (a .n) h, p .5, v .inv .1)) l (p .1) (c .before .before .before .before .before .before .greatest .ensures) (c .before .before .copy .ensures) (v .inv .2), laws.bars-behind (a .n) (v .i) (a .bs .now) (v .bs) (c .before .before .copy .last .0) (c .before .before .before .before .before .before .greatest .last .1 .1 .1 .1 .0) (omega (arith, next-fits (v .i) 16 (a .n) h, p .5, v .inv .1)) (omega (arith, l, p .1)) (c .before .before .copy .ensures) (v .inv .3))
 
 same-length : tie.Need-same-length Inv-loop μ-loop
 same-length c = c .before .loop .inv .1
 
 returns : tie.Need-returns Inv-loop μ-loop
-returns c = λ i h. c .before .loop .inv .2 i (omega arith)
+returns c =
+    let q : c .before .loop .i ≡ c .before .before .before .before .args .count = omega arith in
+    ((λ i h. c .before .loop .inv .2 i (omega arith)), rw q at (c .before .loop .inv .3))
 
 pub bar-each-spec : {M : Type 1} → statement M
 bar-each-spec =

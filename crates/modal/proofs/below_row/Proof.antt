@@ -5,7 +5,7 @@ use mathlib.Core.List.{List}
 use native.Mathlib.Omega.{arith}
 use lib.ListN.{take, drop}
 use lib.Seq.{paste}
-use Rattle.structure.proofs.Parts.{paste-take}
+use Rattle.cells.proofs.Parts.{paste-take}
 use Rattle.structure.proofs.Places.{row-fits}
 use Rattle.modal.proofs.Laws as laws
 use borrow.Author.Needs.{needs}

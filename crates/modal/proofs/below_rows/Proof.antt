@@ -5,7 +5,7 @@ use native.Mathlib.Omega.{arith}
 use native.Mathlib.Nat.{not-suc-le-zero}
 use lib.ListN.{length, take, drop}
 use Rattle.steps.specs.Rows.{rowAt, belowRow}
-use Rattle.structure.proofs.Parts.{paste-behind}
+use Rattle.cells.proofs.Parts.{paste-behind}
 use Rattle.structure.proofs.Places.{row-fits}
 use Rattle.steps.proofs.Parts.{rows-more}
 use Rattle.modal.proofs.Laws as laws

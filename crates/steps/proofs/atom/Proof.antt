@@ -23,7 +23,7 @@ same-length-2 : tie.Need-same-length-2
 same-length-2 c = search needs
 
 returns : tie.Need-returns
-returns c = (omega arith, λ z. absurd (omega arith), λ K counts offs values f laid lead. atoms.atom-dropped K _ _ _ _ _ _ laid _ _ _ f lead _ _ (c .before .before .before .before .atom-rows .ensures) (c .if1 .taken))
+returns c = (omega arith, λ z. absurd (omega arith), λ K f laid lead. atoms.atom-dropped K _ _ laid _ _ _ f lead _ _ (c .before .before .before .before .atom-rows .ensures) (c .if1 .taken))
 
 same-length-3 : tie.Need-same-length-3
 same-length-3 c = search needs
@@ -35,8 +35,8 @@ returns-2 : tie.Need-returns-2
 returns-2 c =
     let a = c .before .before .before .before .before .before .before .before .before .args in
     let p = c .before .before .before .before .before .before .before .before .before .pre in
-    let b : 0 < a .n = omega (arith, p .0 .station) in
-    (omega arith, λ z. c .if1 .left, λ K counts offs values f laid lead. atoms.atom-kept K _ _ _ _ _ _ laid _ _ _ f lead _ _ (c .before .before .before .before .atom-rows .ensures) (c .if1 .left) (getD-set-same (a .bs .now) 0 255 0 (omega (arith, p .1 .1, b))))
+    let b : 0 < a .x .n = omega (arith, p .0 .station) in
+    (omega arith, λ z. c .if1 .left, λ K f laid lead. atoms.atom-kept K _ _ laid _ _ _ f lead _ _ (c .before .before .before .before .atom-rows .ensures) (c .if1 .left) (getD-set-same (a .bs .now) 0 255 0 (omega (arith, p .1 .1, b))))
 
 pub atom-spec : {M : Type 1} → statement M
 atom-spec =

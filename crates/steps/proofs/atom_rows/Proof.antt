@@ -13,11 +13,11 @@ use Rattle.steps.proofs.atom_rows.Statement.{statement}
 use Rattle.steps.proofs.atom_rows.Tie as tie
 
 abbrev Inv-loop : tie.InvT-loop
-Inv-loop ws₀ n e s off table starts i₀ ws i =
-    (i ≤ e + 1) × (length ws ≡ length ws₀) × ((r : ℕ) → r < i → rowAt n r ws ≡ atomRow n s off table starts r)
+Inv-loop ws₀ x s off table starts e i₀ ws i =
+    (i ≤ e + 1) × (length ws ≡ length ws₀) × ((r : ℕ) → r < i → rowAt (x .n) r ws ≡ atomRow (x .n) s off table starts r)
 
 abbrev μ-loop : tie.MeasureT-loop
-μ-loop ws₀ n e s off table starts i₀ ws i = e + 1 - i
+μ-loop ws₀ x s off table starts e i₀ ws i = e + 1 - i
 
 loop-holds : tie.Need-loop-holds Inv-loop μ-loop
 loop-holds c = (omega arith, refl, λ r h. absurd (not-suc-le-zero h))
@@ -36,9 +36,9 @@ loop-again c =
     let a = c .before .before .before .before .before .before .before .before .args in
     let p = c .before .before .before .before .before .before .before .before .pre in
     let v = c .before .before .before .before .before .loop in
-    let h : v .i ≤ a .e = c .before .before .before .before .loop-test .taken in
-    let f = row-fits (v .i) (a .e) (a .n) h in
-    (omega arith, c .before .before .atom-row .kept .0 ∙ v .inv .1, rows-more (a .n) (atomRow (a .n) (a .s) (a .off) (a .table .now) (a .starts .now)) (v .i) (v .ws) (c .before .before .atom-row .last .0) (omega (arith, p .1, f, v .inv .1)) (laws.atom-length (a .n) (a .e) (a .s) (a .off) (a .table .now) (a .starts .now) (p .0) (v .i) h (omega (arith, c .before .before .before .before .before .before .shared-slice-known .given (v .i * a .n + a .s)))) (c .before .before .atom-row .ensures) (v .inv .2))
+    let h : v .i ≤ a .x .e = c .before .before .before .before .loop-test .taken in
+    let f = row-fits (v .i) (a .x .e) (a .x .n) h in
+    (omega arith, c .before .before .atom-row .kept .0 ∙ v .inv .1, rows-more (a .x .n) (atomRow (a .x .n) (a .s) (a .off) (a .table .now) (a .starts .now)) (v .i) (v .ws) (c .before .before .atom-row .last .0) (omega (arith, p .1, f, v .inv .1)) (laws.atom-length (a .x .n) (a .x .e) (a .s) (a .off) (a .table .now) (a .starts .now) (p .0) (v .i) h (omega (arith, c .before .before .before .before .before .before .shared-slice-known .given (v .i * a .x .n + a .s)))) (c .before .before .atom-row .ensures) (v .inv .2))
 
 same-length : tie.Need-same-length Inv-loop μ-loop
 same-length c = c .before .loop .inv .1

@@ -5,7 +5,7 @@ use native.Mathlib.Omega.{arith}
 use lib.ListN.{length, take, drop, length-set}
 use lib.Seq.{paste, paste-zero}
 use Rattle.model.specs.Cut.{join}
-use Rattle.structure.proofs.Parts as parts
+use Rattle.cells.proofs.Parts as parts
 use Rattle.steps.proofs.Laws as laws
 use borrow.Author.Needs.{needs}
 use Rattle.steps.proofs.join_cells.Statement.{statement}
