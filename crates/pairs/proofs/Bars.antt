@@ -12,7 +12,7 @@ use borrow.Author.Tests.{eq-eqb, ne-eqb}
 use Rattle.model.specs.Cut.{Cut}
 use Rattle.lattice.proofs.Tests.{and-true, false-iff, not-iff}
 use Rattle.structure.specs.Layout.{cutsAt, barsAt}
-use Rattle.structure.proofs.Parts.{front-same, part-same, paste-front, paste-part}
+use Rattle.cells.proofs.Parts.{front-same, part-same, paste-front, paste-part}
 use Rattle.structure.proofs.Rows.{first-at}
 use Rattle.structure.proofs.Places.{one-more}
 use Rattle.structure.proofs.Listed.{cuts-add, cuts-same}

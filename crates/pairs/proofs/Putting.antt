@@ -16,11 +16,12 @@ use Rattle.model.specs.Structure.{Structure, greatest, keep, build, buildOn}
 use Rattle.model.specs.Basis.{start, intersect, each, pairs}
 use Rattle.model.specs.Rounds.{roundsOfPair, roundsOfPairs}
 use Rattle.structure.specs.Layout.{decoded, structureAt, standing, barsAt, placed, cells, barCells}
-use Rattle.structure.specs.Laid.{Laid}
+use Rattle.model.specs.Limits.{stepRounds}
+use Rattle.structure.specs.declared.Shape.{Shape}
 use Rattle.rounds.specs.Pair.{Starts, Intersected}
 use Rattle.rounds.proofs.FromLaid.{laid-starts}
 use Rattle.lattice.proofs.Sums.{sum-snoc}
-use Rattle.structure.proofs.Parts.{front-same, part-same, cell-same, paste-part}
+use Rattle.cells.proofs.Parts.{front-same, part-same, cell-same, paste-part}
 use Rattle.structure.proofs.Rows.{decoded-none, decoded-some}
 use Rattle.structure.proofs.Places.{one-more, cells-are, next-fits}
 use Rattle.structure.proofs.Standing.{structure-same, standing-same, standing-add}
@@ -45,7 +46,7 @@ module _ (n e : ℕ) (counts starts : List ℕ) where
   abbrev slot : ℕ
   slot = 16 * n
 
-  module _ (K : Computation) (offs values : List ℕ) (laid : Laid K n e counts offs starts values) where
+  module _ (K : Computation) (laid : Starts K n e counts starts) where
     pub cells-is : suc (total (full K)) * n ≡ size
     cells-is = cells-are n e (full K) (laid .counted)
 
@@ -81,8 +82,8 @@ module _ (n e : ℕ) (counts starts : List ℕ) where
   pub put-none : (o : ℕ) (w b : List ℕ) (X : Computation → List Structure) (Y : Computation → ℕ) → ((K : Computation) → X K ≡ []) → ((K : Computation) → Y K ≡ 0) → Put n e o 0 counts starts w w b b X Y 0
   unfolding standing
   put-none o w b X Y f g = record {
-    stands = λ K offs values laid. sym (f K);
-    summed = λ K offs values laid. sym (g K);
+    stands = λ K laid. sym (f K);
+    summed = λ K laid. sym (g K);
     cells-kept = refl;
     bars-kept = refl;
     least = λ j h. absurd (not-suc-le-zero h);
@@ -90,8 +91,8 @@ module _ (n e : ℕ) (counts starts : List ℕ) where
 
   module _ (z : 0 < n) (o k m : ℕ) (w w₁ w₂ b b₁ b₂ : List ℕ) (X X′ X″ : Computation → List Structure) (Y Y′ Y″ : Computation → ℕ) (s s′ : ℕ)
       (first : Put n e o k counts starts w w₁ b b₁ X Y s) (second : Put n e (o + k) m counts starts w₁ w₂ b₁ b₂ X′ Y′ s′)
-      (both : (K : Computation) (offs values : List ℕ) → Laid K n e counts offs starts values → X K ++ X′ K ≡ X″ K)
-      (adds : (K : Computation) (offs values : List ℕ) → Laid K n e counts offs starts values → Y K + Y′ K ≡ Y″ K) where
+      (both : (K : Computation) → Starts K n e counts starts → X K ++ X′ K ≡ X″ K)
+      (adds : (K : Computation) → Starts K n e counts starts → Y K + Y′ K ≡ Y″ K) where
     put-least : (j : ℕ) → j < k + m → getD w₂ ((o + j) * size) 0 ≡ 255 → ⊥
     put-least j h f = go (ltb j k) refl
       where
@@ -109,16 +110,16 @@ module _ (n e : ℕ) (counts starts : List ℕ) where
 
     pub put-more : Put n e o (k + m) counts starts w w₂ b b₂ X″ Y″ (s + s′)
     put-more = record {
-      stands = λ K offs values laid.
-          let c : suc (total (full K)) * n ≡ size = cells-is K offs values laid in
+      stands = λ K laid.
+          let c : suc (total (full K)) * n ≡ size = cells-is K laid in
           let old : standing n (full K) k (drop (o * size) w₂) (drop (o * slot) b₂) ≡ X K =
-          from-kept K offs values laid (o + k) w₂ w₁ b₂ b₁ (second .cells-kept) (second .bars-kept) o k (omega arith) ∙ first .stands K offs values laid in
+          from-kept K laid (o + k) w₂ w₁ b₂ b₁ (second .cells-kept) (second .bars-kept) o k (omega arith) ∙ first .stands K laid in
           let dw : drop (k * cells n (full K)) (drop (o * size) w₂) ≡ drop ((o + k) * size) w₂ =
           ap (λ (y : ℕ). drop (k * y) (drop (o * size) w₂)) c ∙ drop-drop (k * size) (o * size) w₂ ∙ ap (λ (y : ℕ). drop y w₂) (sym (add-mul o k size)) in
           let db : drop (k * barCells n) (drop (o * slot) b₂) ≡ drop ((o + k) * slot) b₂ = drop-drop (k * slot) (o * slot) b₂ ∙ ap (λ (y : ℕ). drop y b₂) (sym (add-mul o k slot)) in
           standing-add n (full K) k m (drop (o * size) w₂) (drop (o * slot) b₂)
-          ∙ ap₂ (λ (l r : List Structure). l ++ r) old (ap₂ (standing n (full K) m) dw db ∙ second .stands K offs values laid) ∙ both K offs values laid;
-      summed = λ K offs values laid. ap₂ (λ (u v : ℕ). u + v) (first .summed K offs values laid) (second .summed K offs values laid) ∙ adds K offs values laid;
+          ∙ ap₂ (λ (l r : List Structure). l ++ r) old (ap₂ (standing n (full K) m) dw db ∙ second .stands K laid) ∙ both K laid;
+      summed = λ K laid. ap₂ (λ (u v : ℕ). u + v) (first .summed K laid) (second .summed K laid) ∙ adds K laid;
       cells-kept = front-same ((o + k) * size) w₂ w₁ (second .cells-kept) (o * size) (omega (arith, add-mul o k size)) ∙ first .cells-kept;
       bars-kept = front-same ((o + k) * slot) b₂ b₁ (second .bars-kept) (o * slot) (omega (arith, add-mul o k slot)) ∙ first .bars-kept;
       least = put-least;
@@ -138,9 +139,9 @@ module _ (n e : ℕ) (counts starts : List ℕ) where
     first-is : getD (take n (drop (o * size) w₁)) 0 0 ≡ getD w₁ (o * size) 0
     first-is = getD-take n (drop (o * size) w₁) 0 0 z ∙ getD-drop (o * size) w₁ 0 0 ∙ ap (λ (x : ℕ). getD w₁ x 0) (let q : o * size + 0 ≡ o * size = omega arith in q)
 
-    module _ (K : Computation) (offs values : List ℕ) (laid : Laid K n e counts offs starts values) where
+    module _ (K : Computation) (laid : Starts K n e counts starts) where
       inter-is : Intersected K (structureOf n e K w b i) (structureOf n e K w b j) n (drop (o * size) w₁) rounds
-      inter-is = rw (laid .counts-are) at (inter K (drop (i * slot) b) (drop (j * slot) b) (laid-starts laid))
+      inter-is = rw (laid .counts-are) at (inter K (drop (i * slot) b) (drop (j * slot) b) laid)
 
       least-is : (start K (structureOf n e K w b i) (structureOf n e K w b j) (empty (stations K))) .reached ≡ decoded (take n (drop (o * size) w₁))
       least-is = ap (λ (x : ℕ). (start K (structureOf n e K w b i) (structureOf n e K w b j) (empty x)) .reached) (laid .stationed) ∙ sym (inter-is .least)
@@ -153,12 +154,12 @@ module _ (n e : ℕ) (counts starts : List ℕ) where
       unfolding intersect build buildOn
       one-some f = rw (least-is, decoded-some (take n (drop (o * size) w₁)) (λ g. f (sym first-is ∙ g)), bars .bars, inter-is .rows)
 
-    module _ (k : ℕ) (stands : (K : Computation) (offs values : List ℕ) → Laid K n e counts offs starts values → standingFrom n e K w₁ b₁ o k ≡ one K)
+    module _ (k : ℕ) (stands : (K : Computation) → Starts K n e counts starts → standingFrom n e K w₁ b₁ o k ≡ one K)
         (there : 0 < k → getD w₁ (o * size) 0 ≡ 255 → ⊥) (few : k ≤ 1) where
       put-one : Put n e o k counts starts w w₁ b b₁ one cost rounds
       put-one = record {
         stands = stands;
-        summed = λ K offs values laid. inter-is K offs values laid .rounds;
+        summed = λ K laid. inter-is K laid .rounds;
         cells-kept = fw;
         bars-kept = bars .front;
         least = λ t h f. there (omega arith) (ap (λ (x : ℕ). getD w₁ (x * size) 0) (let q : o ≡ o + t = omega arith in q) ∙ f);
@@ -166,25 +167,25 @@ module _ (n e : ℕ) (counts starts : List ℕ) where
 
     pub one-empty : getD w₁ (o * size) 0 ≡ 255 → Put n e o 0 counts starts w w₁ b b₁ one cost rounds
     unfolding standing
-    one-empty f = put-one 0 (λ K offs values laid. sym (one-none K offs values laid f)) (λ h. absurd (not-suc-le-zero h)) (omega arith)
+    one-empty f = put-one 0 (λ K laid. sym (one-none K laid f)) (λ h. absurd (not-suc-le-zero h)) (omega arith)
 
     module _ (f : getD w₁ (o * size) 0 ≡ 255 → ⊥) (g : List ℕ) (t : Bool) (top : (counts₂ d : List ℕ) → total counts₂ ≡ e → take n g ≡ greatest (structureAt n counts₂ (drop (o * size) w₁) d))
         (test : t ≡ insideAny (take n g) (barsAt n 16 (drop (o * slot) b₁))) where
-      keep-is : (K : Computation) (offs values : List ℕ) → Laid K n e counts offs starts values → one K ≡ cond t [] (structureOf n e K w₁ b₁ o ∷ [])
+      keep-is : (K : Computation) → Starts K n e counts starts → one K ≡ cond t [] (structureOf n e K w₁ b₁ o ∷ [])
       unfolding keep
-      keep-is K offs values laid =
-          one-some K offs values laid f
+      keep-is K laid =
+          one-some K laid f
           ∙ ap (λ (x : Bool). cond x [] (structureOf n e K w₁ b₁ o ∷ []))
           (ap (λ (x : Cut). insideAny x (barsAt n 16 (drop (o * slot) b₁))) (sym (top (full K) (drop (o * slot) b₁) (laid .counted))) ∙ sym test)
 
       pub one-dropped : t ≡ true → Put n e o 0 counts starts w w₁ b b₁ one cost rounds
       unfolding standing
       one-dropped y =
-          put-one 0 (λ K offs values laid. sym (keep-is K offs values laid ∙ ap (λ (x : Bool). cond x [] (structureOf n e K w₁ b₁ o ∷ [])) y)) (λ h. absurd (not-suc-le-zero h)) (omega arith)
+          put-one 0 (λ K laid. sym (keep-is K laid ∙ ap (λ (x : Bool). cond x [] (structureOf n e K w₁ b₁ o ∷ [])) y)) (λ h. absurd (not-suc-le-zero h)) (omega arith)
 
       pub one-kept : t ≡ false → Put n e o 1 counts starts w w₁ b b₁ one cost rounds
       unfolding standing
-      one-kept y = put-one 1 (λ K offs values laid. sym (keep-is K offs values laid ∙ ap (λ (x : Bool). cond x [] (structureOf n e K w₁ b₁ o ∷ [])) y)) (λ h. f) (omega arith)
+      one-kept y = put-one 1 (λ K laid. sym (keep-is K laid ∙ ap (λ (x : Bool). cond x [] (structureOf n e K w₁ b₁ o ∷ [])) y)) (λ h. f) (omega arith)
 
   -- A ROW OF PAIRS
 
@@ -204,18 +205,18 @@ module _ (n e : ℕ) (counts starts : List ℕ) where
       → Put n e o (c + k) counts starts w w₂ b b₂ (rowX w b i l (j + 1)) (rowY w b i l (j + 1)) (s + s′)
   row-more z o c k i l j w w₁ w₂ b b₁ b₂ s s′ hi hj p q =
       put-more z o c k w w₁ w₂ b b₁ b₂ _ _ (rowX w b i l (j + 1)) _ _ (rowY w b i l (j + 1)) s s′ p q
-      (λ K offs values laid.
-      let x = structure-kept K offs values laid o w₁ w b₁ b (p .cells-kept) (p .bars-kept) i hi in
-      let y = structure-kept K offs values laid o w₁ w b₁ b (p .cells-kept) (p .bars-kept) (l + j) hj ∙ sym (at-sum K offs values laid l j w b) in
+      (λ K laid.
+      let x = structure-kept K laid o w₁ w b₁ b (p .cells-kept) (p .bars-kept) i hi in
+      let y = structure-kept K laid o w₁ w b₁ b (p .cells-kept) (p .bars-kept) (l + j) hj ∙ sym (at-sum K laid l j w b) in
       ap₂ (λ (S T : Structure). rowX w b i l j K ++ intersect K S T) x y
       ∙ each-one (intersect K (structureOf n e K w b i)) (standingFrom n e K w b l j) _
-      ∙ ap (each (intersect K (structureOf n e K w b i))) (sym (snoc K offs values laid j (drop (l * size) w) (drop (l * slot) b))))
-      (λ K offs values laid.
-      let x = structure-kept K offs values laid o w₁ w b₁ b (p .cells-kept) (p .bars-kept) i hi in
-      let y = structure-kept K offs values laid o w₁ w b₁ b (p .cells-kept) (p .bars-kept) (l + j) hj ∙ sym (at-sum K offs values laid l j w b) in
+      ∙ ap (each (intersect K (structureOf n e K w b i))) (sym (snoc K laid j (drop (l * size) w) (drop (l * slot) b))))
+      (λ K laid.
+      let x = structure-kept K laid o w₁ w b₁ b (p .cells-kept) (p .bars-kept) i hi in
+      let y = structure-kept K laid o w₁ w b₁ b (p .cells-kept) (p .bars-kept) (l + j) hj ∙ sym (at-sum K laid l j w b) in
       ap₂ (λ (S T : Structure). rowY w b i l j K + roundsOfPair K S T) x y
       ∙ sum-one (roundsOfPair K (structureOf n e K w b i)) (standingFrom n e K w b l j) _
-      ∙ ap (sum (roundsOfPair K (structureOf n e K w b i))) (sym (snoc K offs values laid j (drop (l * size) w) (drop (l * slot) b))))
+      ∙ ap (sum (roundsOfPair K (structureOf n e K w b i))) (sym (snoc K laid j (drop (l * size) w) (drop (l * slot) b))))
 
   -- ALL PAIRS
 
@@ -235,37 +236,42 @@ module _ (n e : ℕ) (counts starts : List ℕ) where
       → Put n e o (c + k) counts starts w w₂ b b₂ (allX w b l r (i + 1)) (allY w b l r (i + 1)) (s + s′)
   all-more z o c k l r i w w₁ w₂ b b₁ b₂ s s′ hi hr p q =
       put-more z o c k w w₁ w₂ b b₁ b₂ _ _ (allX w b l r (i + 1)) _ _ (allY w b l r (i + 1)) s s′ p q
-      (λ K offs values laid.
-      let x = structure-kept K offs values laid o w₁ w b₁ b (p .cells-kept) (p .bars-kept) i hi in
-      let y = from-kept K offs values laid o w₁ w b₁ b (p .cells-kept) (p .bars-kept) l r hr in
+      (λ K laid.
+      let x = structure-kept K laid o w₁ w b₁ b (p .cells-kept) (p .bars-kept) i hi in
+      let y = from-kept K laid o w₁ w b₁ b (p .cells-kept) (p .bars-kept) l r hr in
       ap₂ (λ (S : Structure) (R : List Structure). allX w b l r i K ++ each (intersect K S) R) x y
       ∙ each-one (λ S. each (intersect K S) (standingFrom n e K w b l r)) (standing n (full K) i w b) (structureOf n e K w b i)
-      ∙ ap (each (λ S. each (intersect K S) (standingFrom n e K w b l r))) (sym (snoc K offs values laid i w b)))
-      (λ K offs values laid.
-      let x = structure-kept K offs values laid o w₁ w b₁ b (p .cells-kept) (p .bars-kept) i hi in
-      let y = from-kept K offs values laid o w₁ w b₁ b (p .cells-kept) (p .bars-kept) l r hr in
+      ∙ ap (each (λ S. each (intersect K S) (standingFrom n e K w b l r))) (sym (snoc K laid i w b)))
+      (λ K laid.
+      let x = structure-kept K laid o w₁ w b₁ b (p .cells-kept) (p .bars-kept) i hi in
+      let y = from-kept K laid o w₁ w b₁ b (p .cells-kept) (p .bars-kept) l r hr in
       ap₂ (λ (S : Structure) (R : List Structure). allY w b l r i K + sum (roundsOfPair K S) R) x y
       ∙ sum-one (λ S. sum (roundsOfPair K S) (standingFrom n e K w b l r)) (standing n (full K) i w b) (structureOf n e K w b i)
-      ∙ ap (sum (λ S. sum (roundsOfPair K S) (standingFrom n e K w b l r))) (sym (snoc K offs values laid i w b)))
+      ∙ ap (sum (λ S. sum (roundsOfPair K S) (standingFrom n e K w b l r))) (sym (snoc K laid i w b)))
 
-  -- Moved to the front.
-  pub moved : 0 < n → (o c l r : ℕ) (w w₁ w₂ b b₁ b₂ : List ℕ) (s : ℕ) → s ≤ 262144 → o * size + c * size ≤ length w₁ → o * slot + c * slot ≤ length b₁
-      → Put n e o c counts starts w w₁ b b₁ (allX w b l r l) (allY w b l r l) s
-      → w₂ ≡ paste w₁ 0 (drop (o * size) w₁) (c * size) → b₂ ≡ paste b₁ 0 (drop (o * slot) b₁) (c * slot)
-      → Paired n e l r counts starts w w₂ b b₂ c s
-  unfolding pairs roundsOfPairs
-  moved z o c l r w w₁ w₂ b b₁ b₂ s small hw hb p sw sb =
-      let ew : take (c * size) w₂ ≡ take (c * size) (drop (o * size) w₁) = ap (take (c * size)) sw ∙ paste-part w₁ 0 (drop (o * size) w₁) (c * size) (omega arith) (omega (arith, lib.ListN.length-drop (o * size) w₁)) in
-      let eb : take (c * slot) b₂ ≡ take (c * slot) (drop (o * slot) b₁) = ap (take (c * slot)) sb ∙ paste-part b₁ 0 (drop (o * slot) b₁) (c * slot) (omega arith) (omega (arith, lib.ListN.length-drop (o * slot) b₁)) in
-      record {
-        stands = λ K offs values laid.
-            standing-same n (full K) c w₂ (drop (o * size) w₁) b₂ (drop (o * slot) b₁) z
-            (ap (λ (x : ℕ). take (c * x) w₂) (cells-is K offs values laid) ∙ ew ∙ ap (λ (x : ℕ). take (c * x) (drop (o * size) w₁)) (sym (cells-is K offs values laid))) eb
-            ∙ p .stands K offs values laid;
-        summed = λ K offs values laid. p .summed K offs values laid;
-        least = λ j h f.
-            let q : 0 < size = omega (arith, one-more e n) in
-            let k : j * size < c * size = omega (arith, next-fits j c size h) in
-            p .least j h (ap (λ (x : ℕ). getD w₁ x 0) (add-mul o j size) ∙ sym (getD-drop (o * size) w₁ (j * size) 0) ∙ sym (cell-same (c * size) w₂ (drop (o * size) w₁) ew (j * size) k) ∙ f);
-        small = small;
-      }
+-- Moved to the front.
+pub moved : (x : Shape) (starts : List ℕ) → 0 < x .n → (o c l r : ℕ) (w w₁ w₂ b b₁ b₂ : List ℕ) (s : ℕ) → s ≤ stepRounds
+    → o * ((x .e + 1) * x .n) + c * ((x .e + 1) * x .n) ≤ length w₁ → o * (16 * x .n) + c * (16 * x .n) ≤ length b₁
+    → Put (x .n) (x .e) o c (x .counts) starts w w₁ b b₁ (allX (x .n) (x .e) (x .counts) starts w b l r l) (allY (x .n) (x .e) (x .counts) starts w b l r l) s
+    → w₂ ≡ paste w₁ 0 (drop (o * ((x .e + 1) * x .n)) w₁) (c * ((x .e + 1) * x .n)) → b₂ ≡ paste b₁ 0 (drop (o * (16 * x .n)) b₁) (c * (16 * x .n))
+    → Paired x l r starts w w₂ b b₂ c s
+unfolding pairs roundsOfPairs
+moved x starts z o c l r w w₁ w₂ b b₁ b₂ s small hw hb p sw sb =
+    let n : ℕ = x .n in
+    let e : ℕ = x .e in
+    let size : ℕ = (x .e + 1) * x .n in
+    let slot : ℕ = 16 * x .n in
+    let ew : take (c * size) w₂ ≡ take (c * size) (drop (o * size) w₁) = ap (take (c * size)) sw ∙ paste-part w₁ 0 (drop (o * size) w₁) (c * size) (omega arith) (omega (arith, lib.ListN.length-drop (o * size) w₁)) in
+    let eb : take (c * slot) b₂ ≡ take (c * slot) (drop (o * slot) b₁) = ap (take (c * slot)) sb ∙ paste-part b₁ 0 (drop (o * slot) b₁) (c * slot) (omega arith) (omega (arith, lib.ListN.length-drop (o * slot) b₁)) in
+    record {
+      stands = λ K l.
+          standing-same n (full K) c w₂ (drop (o * size) w₁) b₂ (drop (o * slot) b₁) z
+          (ap (λ (y : ℕ). take (c * y) w₂) (cells-is (x .n) (x .e) (x .counts) starts K (laid-starts l)) ∙ ew ∙ ap (λ (y : ℕ). take (c * y) (drop (o * size) w₁)) (sym (cells-is (x .n) (x .e) (x .counts) starts K (laid-starts l)))) eb
+          ∙ p .stands K (laid-starts l);
+      summed = λ K l. p .summed K (laid-starts l);
+      least = λ j h f.
+          let q : 0 < size = omega (arith, one-more e n) in
+          let k : j * size < c * size = omega (arith, next-fits j c size h) in
+          p .least j h (ap (λ (y : ℕ). getD w₁ y 0) (add-mul o j size) ∙ sym (getD-drop (o * size) w₁ (j * size) 0) ∙ sym (cell-same (c * size) w₂ (drop (o * size) w₁) ew (j * size) k) ∙ f);
+      small = small;
+    }

@@ -8,7 +8,7 @@ use lib.ListN.{length, getD, take, drop}
 use Rattle.model.specs.Computation.{Computation}
 use Rattle.model.specs.Structure.{Structure}
 use Rattle.structure.specs.Layout.{barsAt}
-use Rattle.structure.proofs.Parts.{part-same, cell-same}
+use Rattle.cells.proofs.Parts.{part-same, cell-same}
 use Rattle.structure.proofs.Places.{one-more, next-fits}
 use Rattle.structure.proofs.Standing.{bars-same}
 use Rattle.pairs.specs.Post.{Put, OneReady, RowReady, PairsReady}

@@ -14,7 +14,7 @@ use Rattle.model.specs.Structure.{Structure}
 use Rattle.model.specs.Basis.{Outcome, run}
 use Rattle.lattice.proofs.Sums.{sum-snoc}
 use Rattle.structure.specs.Layout.{decoded, rowsAt, cutsAt, placed, cells}
-use Rattle.structure.proofs.Parts.{front-same, part-same, paste-front, paste-part}
+use Rattle.cells.proofs.Parts.{front-same, part-same, paste-front, paste-part}
 use Rattle.structure.proofs.Rows.{is-none, is-some}
 use Rattle.structure.proofs.Places.{rows-add, one-more, row-fits}
 use Rattle.structure.proofs.Listed.{cuts-more}

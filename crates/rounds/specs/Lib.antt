@@ -1,2 +1,3 @@
+pub mod Stations
 pub mod Said
 pub mod Pair

@@ -1,6 +1,6 @@
 -- The intersection of a pair of structures as it is written to the workspace.
 use mathlib.Core.Path.{_≡_}
-use Prim.Native.Nat.{ℕ, suc, _+_}
+use Prim.Native.Nat.{ℕ, suc, _+_, _<_}
 use mathlib.Core.List.{List, map}
 use mathlib.Core.Option.{Option, some}
 use lib.ListN.{take, drop}
@@ -24,6 +24,7 @@ pub record Began (S T : Structure) (e n : ℕ) (c : Cut) (at : ℕ) (ws₀ ws : 
 
 -- The starts of a computation in bytes: the empty cut and each event's clock, as the cells of a structure.
 pub record Starts (K : Computation) (n e : ℕ) (counts starts : List ℕ) : Type 0 where
+  pub some-station : 0 < n
   pub stationed : stations K ≡ n
   pub counted : eventCount K ≡ e
   pub counts-are : take n counts ≡ full K

@@ -4,7 +4,7 @@ use Prim.Native.Nat.{ℕ, suc, _+_, _*_, _-_, _≤_, _<_}
 use native.Mathlib.Numerals.{add-one}
 use native.Mathlib.Omega.{arith}
 use lib.ListN.{getD, take}
-use Rattle.structure.proofs.Parts.{cell-same}
+use Rattle.cells.proofs.Parts.{cell-same}
 use Rattle.structure.proofs.Places.{cells-are, row-fits}
 use Rattle.rounds.proofs.Turn as laws
 use borrow.Author.Needs.{needs}
