@@ -19,6 +19,8 @@ use Rattle.lattice.proofs.Held.{held-both, held-either, held-possible, held-imp
 use Rattle.lattice.proofs.Weights.{signsOf, weight-true, weight-false}
 use Rattle.lattice.proofs.Rounds.{rounds-normal, square}
 use Rattle.lattice.specs.Signed.{normal, joinedForm, liftedForm}
+use Rattle.model.specs.Limits.{limits, pairRounds}
+use Rattle.basis.specs.Contract.{roundsMost}
 use Rattle.basis.specs.Signed.{joinedBasis, joinedRounds, liftedBasis}
 use Rattle.basis.proofs.Tokens.{signs-tokens}
 
@@ -78,9 +80,9 @@ signs-normal true f = weight-true 0 1 f
 signs-normal false f = weight-false 0 1 f
 
 -- The rounds of a question of at most 32 tokens.
-pub rounds-small : (K : Computation) (s : Bool) (f : Formula) → narrow (normal s f) ≡ true → tokens f ≤ 32 → eventCount K ≤ 127 → rounds K (normal s f) ≤ 16777216
+pub rounds-small : (K : Computation) (s : Bool) (f : Formula) → narrow (normal s f) ≡ true → tokens f ≤ 32 → eventCount K ≤ limits .events → rounds K (normal s f) ≤ roundsMost
 rounds-small K s f h t e =
-    let a : square K ≤ 128 * 128 = mul-le-mul {n₁ = suc (eventCount K)} {m₁ = suc (eventCount K)} {n₂ = 128} {m₂ = 128} (omega arith) (omega arith) in
+    let a : square K ≤ pairRounds = mul-le-mul {n₁ = suc (eventCount K)} {m₁ = suc (eventCount K)} {n₂ = suc (limits .events)} {m₂ = suc (limits .events)} (omega arith) (omega arith) in
     let c : 16 * signsOf (normal s f) ≤ 512 = omega (arith, signs-normal s f, signs-tokens f) in
-    let b : 16 * signsOf (normal s f) * square K ≤ 512 * 16384 = mul-le-mul {n₁ = 16 * signsOf (normal s f)} {m₁ = square K} {n₂ = 512} {m₂ = 16384} c a in
+    let b : 16 * signsOf (normal s f) * square K ≤ 512 * pairRounds = mul-le-mul {n₁ = 16 * signsOf (normal s f)} {m₁ = square K} {n₂ = 512} {m₂ = pairRounds} c a in
     omega (arith, rounds-normal K (normal s f) h, b)

@@ -5,9 +5,8 @@ use native.Mathlib.Omega.{arith}
 use native.Mathlib.Nat.{mul-le-mul-right, zero-mul, one-mul}
 use mathlib.Core.List.{List, [], _++_}
 use mathlib.Core.Bool.{Bool, true, false, Bool·beq, not as flip}
-use lib.ListN.{length, getD, take, drop, replicate, length-drop, length-append}
+use lib.ListN.{length, getD, drop, replicate, length-drop, length-append}
 use lib.Seq.{getD-take}
-use Rattle.model.specs.Lists.{total}
 use Rattle.model.specs.Atom.{Atom, atomBytes, soundAtom, raiseAtom}
 use Rattle.model.specs.Formula.{Formula, prefix, sound, weigh, tokens}
 use Rattle.model.specs.Formula.Formula.{not}
@@ -18,8 +17,6 @@ use Rattle.model.specs.Structure.{build}
 use Rattle.model.specs.Basis.{basis}
 use Rattle.model.specs.Rounds.{rounds}
 use Rattle.structure.specs.Layout.{standing, barCells}
-use Rattle.structure.specs.Stations.{Stations}
-use Rattle.structure.specs.Laid.{Laid}
 use Rattle.lattice.proofs.Signed as signed
 use Rattle.lattice.specs.Signed.{normal, two, joinedForm, liftedForm}
 use Rattle.lattice.proofs.Tests.{and-true}
@@ -28,39 +25,39 @@ use Rattle.lattice.proofs.Held.{width-held}
 use Rattle.steps.specs.Rows.{rowAt}
 use Rattle.steps.proofs.Parts.{row-zero}
 use Rattle.steps.proofs.Built.{first-row, start-there}
-use Rattle.steps.proofs.Atoms.{starts-fit}
 use Rattle.structure.proofs.Places.{cells-are}
 use Rattle.structure.proofs.Standing.{standing-add, length-standing}
-use Rattle.structure.proofs.FromLaid.{laid-stations}
 use Rattle.modal.specs.Post.{Least, Possible, Impossible}
 use Rattle.basis.specs.Signed.{twoToken, modalToken, liftedBasis}
-use Rattle.basis.specs.Contract.{Ready, Made, Combined, Lifted}
+use Rattle.structure.specs.declared.Shape.{Shape}
+use Rattle.basis.specs.Contract.{roundsMost, Given, Ready, Made, Combined, Lifted}
 use Rattle.pairs.specs.Post.{Paired}
 use Rattle.basis.proofs.Tokens as tokens
 use Rattle.basis.proofs.Normals as normals
 
 -- STEPS
 
-pub lifted-wide : (n e k c : ℕ) (starts w w₂ b b₂ : List ℕ) (t : Bool) → t ≡ true → c ≡ k → Possible n e k starts w w₂ b b₂ → Lifted t n e k starts w w₂ b b₂ c
-lifted-wide n e k c starts w w₂ b b₂ t f g d = rw (f, g) (record { stands = d .stands; least = d .least })
+pub lifted-wide : (shape : Shape) (k c : ℕ) (starts w w₂ b b₂ : List ℕ) (t : Bool) → t ≡ true → c ≡ k → Possible shape k starts w w₂ b b₂ → Lifted t shape k starts w w₂ b b₂ c
+lifted-wide shape k c starts w w₂ b b₂ t f g d = rw (f, g) (record { stands = d .stands; least = d .least })
 
-pub lifted-barred : (n e k c : ℕ) (starts w w₂ b b₂ : List ℕ) (t : Bool) → t ≡ false → Impossible n e k c starts w w₂ b b₂ → Lifted t n e k starts w w₂ b b₂ c
-lifted-barred n e k c starts w w₂ b b₂ t f d = rw f (record { stands = d .stands; least = d .least })
+pub lifted-barred : (shape : Shape) (k c : ℕ) (starts w w₂ b b₂ : List ℕ) (t : Bool) → t ≡ false → Impossible shape k c starts w w₂ b b₂ → Lifted t shape k starts w w₂ b b₂ c
+lifted-barred shape k c starts w w₂ b b₂ t f d = rw f (record { stands = d .stands; least = d .least })
 
-pub combined-pairs : (n e l r u v : ℕ) (counts starts w w₂ b b₂ : List ℕ) (c j sum : ℕ) (t : Bool) → t ≡ true → sum ≡ u + v + j
-    → Paired n e l r counts starts w w₂ b b₂ c j → Combined t n e l r u v counts starts w w₂ b b₂ c sum
-combined-pairs n e l r u v counts starts w w₂ b b₂ c j sum t f g d = rw f (record { joined-rounds = j; joined = record { stands = d .stands; summed = d .summed; least = d .least; small = d .small }; summed = g })
+pub combined-pairs : (shape : Shape) (l r u v : ℕ) (starts w w₂ b b₂ : List ℕ) (c j sum : ℕ) (t : Bool) → t ≡ true → sum ≡ u + v + j
+    → Paired shape l r starts w w₂ b b₂ c j → Combined t shape l r u v starts w w₂ b b₂ c sum
+combined-pairs shape l r u v starts w w₂ b b₂ c j sum t f g d = rw f (record { joined-rounds = j; joined = record { stands = d .stands; summed = d .summed; least = d .least; small = d .small }; summed = g })
 
 -- One basis behind the other: nothing is moved.
-pub combined-all : (n e l r u v : ℕ) (counts starts w b : List ℕ) (c sum : ℕ) (t : Bool) → t ≡ false → c ≡ l + r → sum ≡ u + v
-    → Least ((e + 1) * n) (l + r) w → Combined t n e l r u v counts starts w w b b c sum
-combined-all n e l r u v counts starts w b c sum t f g h least = rw (f, g) (record {
+pub combined-all : (shape : Shape) (l r u v : ℕ) (starts w b : List ℕ) (c sum : ℕ) (t : Bool) → t ≡ false → c ≡ l + r → sum ≡ u + v
+    → Least ((shape .e + 1) * shape .n) (l + r) w → Combined t shape l r u v starts w w b b c sum
+combined-all shape l r u v starts w b c sum t f g h least = rw (f, g) (record {
   joined-rounds = 0;
   joined = record {
-    stands = λ K offs values laid.
-        let x = cells-are n e (full K) (laid .counted) in
+    stands = λ K laid.
+        let n : ℕ = shape .n in
+        let x = cells-are n (shape .e) (full K) (laid .counted) in
         standing-add n (full K) l r w b ∙ ap (λ (y : ℕ). standing n (full K) l w b ++ standing n (full K) r (drop (l * y) w) (drop (l * barCells n) b)) x;
-    summed = λ K offs values laid. refl;
+    summed = λ K laid. refl;
     least = least;
     small = omega arith;
   };
@@ -69,34 +66,28 @@ combined-all n e l r u v counts starts w b c sum t f g h least = rw (f, g) (reco
 
 -- A COMPUTATION LAID OUT
 
-module _ (s : Bool) (n e : ℕ) (q counts offs starts values : List ℕ) (mw mb : ℕ) (r : Ready s n e q counts offs starts values mw mb) where
+module _ (s : Bool) (shape : Shape) (q starts values : List ℕ) (mw mb : ℕ) (r : Ready s shape q starts values mw mb) where
   pub question-some : 0 < length q
   question-some = omega (arith, ap length (r .reads), length-append (prefix (r .formula)) (r .rest), tokens.prefix-some (r .formula))
 
-  pub starts-room : (e + 1) * n ≤ length starts
-  starts-room = starts-fit (r .computation) n e counts offs starts values (r .laid) 0 (r .laid .some-station)
+  pub starts-room : (shape .e + 1) * shape .n ≤ length starts
+  starts-room = r .laid .0 .starts-fit
 
-  pub first-start : rowAt n 0 starts ≡ replicate n 0
-  first-start = first-row (r .computation) n e counts offs starts values (r .laid)
+  pub first-start : rowAt (shape .n) 0 starts ≡ replicate (shape .n) 0
+  first-start = first-row (r .computation) shape starts (r .laid .0)
 
   pub first-cell : getD starts 0 0 ≡ 255 → ⊥
   first-cell f =
-      start-there (r .computation) n e counts offs starts values (r .laid) 0 (omega arith)
-      (ap (λ (x : List ℕ). getD x 0 0) (row-zero n starts) ∙ getD-take n starts 0 0 (r .laid .some-station) ∙ f)
-
-  pub stations-are : Stations n counts offs
-  stations-are = laid-stations (r .laid)
-
-  pub total-is : total (take n counts) ≡ e
-  total-is = ap total (r .laid .counts-are) ∙ r .laid .counted
+      start-there (r .computation) shape starts (r .laid .0) 0 (omega arith)
+      (ap (λ (x : List ℕ). getD x 0 0) (row-zero (shape .n) starts) ∙ getD-take (shape .n) starts 0 0 (r .laid .0 .shaped .some-station) ∙ f)
 
   -- ATOMS
 
-  pub ready-atom : (1 < getD q 0 0 → getD q 0 0 < 7 → ⊥) → (a : Atom) × (q ≡ atomBytes a ++ r .rest) × (soundAtom n a ≡ true)
+  pub ready-atom : (1 < getD q 0 0 → getD q 0 0 < 7 → ⊥) → (a : Atom) × (q ≡ atomBytes a ++ r .rest) × (soundAtom (shape .n) a ≡ true)
   unfolding sound
   ready-atom k =
       let h = tokens.at-atom q (r .formula) (r .rest) (r .reads) k in
-      (h .0, h .2, sym (ap (sound n) (h .1)) ∙ r .known)
+      (h .0, h .2, sym (ap (sound (shape .n)) (h .1)) ∙ r .known)
 
   -- There is room for one structure, and for its bars.
   one-fits : (c m : ℕ) → held (normal s (r .formula)) * c ≤ m → c ≤ m
@@ -104,11 +95,11 @@ module _ (s : Bool) (n e : ℕ) (q counts offs starts values : List ℕ) (mw mb 
       let o : 1 ≤ held (normal s (r .formula)) = omega (arith, width-held (normal s (r .formula)), width-pos (normal s (r .formula))) in
       omega (arith, mul-le-mul-right c o, one-mul c)
 
-  pub atom-cells : (e + 1) * n ≤ mw
-  atom-cells = one-fits ((e + 1) * n) mw (r .cells-fit)
+  pub atom-cells : (shape .e + 1) * shape .n ≤ mw
+  atom-cells = one-fits ((shape .e + 1) * shape .n) mw (r .cells-fit)
 
-  pub atom-bars : 16 * n ≤ mb
-  atom-bars = one-fits (16 * n) mb (r .bars-fit)
+  pub atom-bars : 16 * shape .n ≤ mb
+  atom-bars = one-fits (16 * shape .n) mb (r .bars-fit)
 
   -- OPERANDS
 
@@ -116,7 +107,7 @@ module _ (s : Bool) (n e : ℕ) (q counts offs starts values : List ℕ) (mw mb 
     pub shorter : length q′ < length q
     shorter = omega (arith, ap length d, length-drop 1 q, question-some)
 
-    pub ready-not : getD q 0 0 ≡ 2 → Ready (flip s) n e q′ counts offs starts values mw mb
+    pub ready-not : getD q 0 0 ≡ 2 → Ready (flip s) shape q′ starts values mw mb
     unfolding sound weigh
     ready-not k =
         let h = tokens.behind-not q (r .formula) (r .rest) (r .reads) k in
@@ -127,51 +118,51 @@ module _ (s : Bool) (n e : ℕ) (q counts offs starts values : List ℕ) (mw mb 
           formula = h .0;
           rest = r .rest;
           reads = d ∙ h .2;
-          known = sym (ap (sound n) (h .1)) ∙ r .known;
+          known = sym (ap (sound (shape .n)) (h .1)) ∙ r .known;
           slim = sym (ap narrow m) ∙ r .slim;
           short = omega (arith, r .short, ap tokens (h .1));
-          cells-fit = subst (λ (p : Normal). held p * ((e + 1) * n) ≤ mw) m (r .cells-fit);
-          bars-fit = subst (λ (p : Normal). held p * (16 * n) ≤ mb) m (r .bars-fit);
+          cells-fit = subst (λ (p : Normal). held p * ((shape .e + 1) * shape .n) ≤ mw) m (r .cells-fit);
+          bars-fit = subst (λ (p : Normal). held p * (16 * shape .n) ≤ mb) m (r .bars-fit);
         }
 
-    pub ready-modal : (b : Bool) → getD q 0 0 ≡ modalToken b → Ready b n e q′ counts offs starts values mw mb
+    pub ready-modal : (b : Bool) → getD q 0 0 ≡ modalToken b → Ready b shape q′ starts values mw mb
     ready-modal b k =
         let h = tokens.behind-modal q (r .formula) (r .rest) (r .reads) b k in
         let m : normal s (r .formula) ≡ liftedForm (Bool·beq b s) (normal b (h .0)) = ap (normal s) (h .1) ∙ signed.normal-modal s b (h .0) in
         let g = normals.held-lifted (Bool·beq b s) (normal b (h .0)) in
-        let x : held (liftedForm (Bool·beq b s) (normal b (h .0))) * ((e + 1) * n) ≤ mw = subst (λ (p : Normal). held p * ((e + 1) * n) ≤ mw) m (r .cells-fit) in
-        let y : held (liftedForm (Bool·beq b s) (normal b (h .0))) * (16 * n) ≤ mb = subst (λ (p : Normal). held p * (16 * n) ≤ mb) m (r .bars-fit) in
+        let x : held (liftedForm (Bool·beq b s) (normal b (h .0))) * ((shape .e + 1) * shape .n) ≤ mw = subst (λ (p : Normal). held p * ((shape .e + 1) * shape .n) ≤ mw) m (r .cells-fit) in
+        let y : held (liftedForm (Bool·beq b s) (normal b (h .0))) * (16 * shape .n) ≤ mb = subst (λ (p : Normal). held p * (16 * shape .n) ≤ mb) m (r .bars-fit) in
         record {
           computation = r .computation;
           laid = r .laid;
           formula = h .0;
           rest = r .rest;
           reads = d ∙ h .2;
-          known = sym (ap (sound n) (h .1) ∙ signed.sound-modal n b (h .0)) ∙ r .known;
+          known = sym (ap (sound (shape .n)) (h .1) ∙ signed.sound-modal (shape .n) b (h .0)) ∙ r .known;
           slim = normals.narrow-lifted (Bool·beq b s) (normal b (h .0)) (sym (ap narrow m) ∙ r .slim) .1;
           short = omega (arith, r .short, ap tokens (h .1), signed.weigh-modal 1 1 1 b (h .0));
-          cells-fit = omega (arith, mul-le-mul-right ((e + 1) * n) (g .0), x);
-          bars-fit = omega (arith, mul-le-mul-right (16 * n) (g .0), y);
+          cells-fit = omega (arith, mul-le-mul-right ((shape .e + 1) * shape .n) (g .0), x);
+          bars-fit = omega (arith, mul-le-mul-right (16 * shape .n) (g .0), y);
         }
 
-    pub ready-left : (b : Bool) → getD q 0 0 ≡ twoToken b → Ready s n e q′ counts offs starts values mw mb
+    pub ready-left : (b : Bool) → getD q 0 0 ≡ twoToken b → Ready s shape q′ starts values mw mb
     ready-left b k =
         let h = tokens.behind-two q (r .formula) (r .rest) (r .reads) b k in
         let m : normal s (r .formula) ≡ joinedForm (Bool·beq b s) (normal s (h .0)) (normal s (h .1)) = ap (normal s) (h .2) ∙ signed.normal-two s b (h .0) (h .1) in
         let g = normals.held-joined (Bool·beq b s) (normal s (h .0)) (normal s (h .1)) in
-        let x : held (joinedForm (Bool·beq b s) (normal s (h .0)) (normal s (h .1))) * ((e + 1) * n) ≤ mw = subst (λ (p : Normal). held p * ((e + 1) * n) ≤ mw) m (r .cells-fit) in
-        let y : held (joinedForm (Bool·beq b s) (normal s (h .0)) (normal s (h .1))) * (16 * n) ≤ mb = subst (λ (p : Normal). held p * (16 * n) ≤ mb) m (r .bars-fit) in
+        let x : held (joinedForm (Bool·beq b s) (normal s (h .0)) (normal s (h .1))) * ((shape .e + 1) * shape .n) ≤ mw = subst (λ (p : Normal). held p * ((shape .e + 1) * shape .n) ≤ mw) m (r .cells-fit) in
+        let y : held (joinedForm (Bool·beq b s) (normal s (h .0)) (normal s (h .1))) * (16 * shape .n) ≤ mb = subst (λ (p : Normal). held p * (16 * shape .n) ≤ mb) m (r .bars-fit) in
         record {
           computation = r .computation;
           laid = r .laid;
           formula = h .0;
           rest = prefix (h .1) ++ r .rest;
           reads = d ∙ h .3;
-          known = and-true (sound n (h .0)) (sound n (h .1)) .0 (sym (ap (sound n) (h .2) ∙ signed.sound-two n b (h .0) (h .1)) ∙ r .known) .0;
+          known = and-true (sound (shape .n) (h .0)) (sound (shape .n) (h .1)) .0 (sym (ap (sound (shape .n)) (h .2) ∙ signed.sound-two (shape .n) b (h .0) (h .1)) ∙ r .known) .0;
           slim = normals.narrow-joined (Bool·beq b s) (normal s (h .0)) (normal s (h .1)) (sym (ap narrow m) ∙ r .slim) .0;
           short = omega (arith, r .short, ap tokens (h .2), signed.weigh-two 1 1 1 b (h .0) (h .1));
-          cells-fit = omega (arith, mul-le-mul-right ((e + 1) * n) (g .0), x);
-          bars-fit = omega (arith, mul-le-mul-right (16 * n) (g .0), y);
+          cells-fit = omega (arith, mul-le-mul-right ((shape .e + 1) * shape .n) (g .0), x);
+          bars-fit = omega (arith, mul-le-mul-right (16 * shape .n) (g .0), y);
         }
 
 -- WHAT A CALL LEAVES
@@ -181,42 +172,42 @@ pub record Done (count used sum : ℕ) (p : Normal) (l : ℕ) : Type 0 where
   pub wide : count ≤ width p
   pub few : count ≤ 16
   pub short : used ≤ 192
-  pub small : sum ≤ 16777216
+  pub small : sum ≤ roundsMost
   pub within : used ≤ l
 
-module _ (s : Bool) (n e : ℕ) (q counts offs starts values : List ℕ) (c u v : ℕ) (w b : List ℕ) (d : Made s n e q counts offs starts values c u v w b) where
-  pub done-at : (K : Computation) → Laid K n e counts offs starts values → (f : Formula) (rest : List ℕ) → q ≡ prefix f ++ rest → narrow (normal s f) ≡ true → tokens f ≤ 32
+module _ (s : Bool) (shape : Shape) (q starts values : List ℕ) (c u v : ℕ) (w b : List ℕ) (d : Made s shape q starts values c u v w b) where
+  pub done-at : (K : Computation) → Given K shape starts values → (f : Formula) (rest : List ℕ) → q ≡ prefix f ++ rest → narrow (normal s f) ≡ true → tokens f ≤ 32
       → Done c u v (normal s f) (length q)
   done-at K laid f rest reads slim short =
-      let k : c ≡ length (basis K (normal s f)) = sym (length-standing n (full K) c w b) ∙ ap length (d .stands K f rest laid reads) in
+      let k : c ≡ length (basis K (normal s f)) = sym (length-standing (shape .n) (full K) c w b) ∙ ap length (d .stands K f rest laid reads) in
       let i : c ≤ width (normal s f) = omega (arith, basis-width K (normal s f)) in
       record {
         wide = i;
         few = omega (arith, narrow-to (normal s f) slim);
         short = omega (arith, d .passed f rest reads, tokens.prefix-short f);
-        small = omega (arith, d .counted K f rest laid reads, normals.rounds-small K s f slim short (omega (arith, laid .counted, laid .few-events)));
+        small = omega (arith, d .counted K f rest laid reads, normals.rounds-small K s f slim short (omega (arith, laid .0 .counted, laid .0 .shaped .few-events)));
         within = omega (arith, d .passed f rest reads, ap length reads, length-append (prefix f) rest);
       }
 
-  pub done : (mw mb : ℕ) (r : Ready s n e q counts offs starts values mw mb) → Done c u v (normal s (r .formula)) (length q)
+  pub done : (mw mb : ℕ) (r : Ready s shape q starts values mw mb) → Done c u v (normal s (r .formula)) (length q)
   done mw mb r = done-at (r .computation) (r .laid) (r .formula) (r .rest) (r .reads) (r .slim) (r .short)
 
-module _ (s : Bool) (n e : ℕ) (q counts offs starts values : List ℕ) where
+module _ (s : Bool) (shape : Shape) (q starts values : List ℕ) where
   pub made-atom : (c u : ℕ) (w b : List ℕ) → (1 < getD q 0 0 → getD q 0 0 < 7 → ⊥) → c ≤ 1 → (0 < c → getD w 0 0 ≡ 255 → ⊥)
       → ((a : Atom) (rest : List ℕ) → q ≡ atomBytes a ++ rest → u ≡ length (atomBytes a))
-      → ((K : Computation) (a : Atom) (rest : List ℕ) → Laid K n e counts offs starts values → q ≡ atomBytes a ++ rest → standing n (full K) c w b ≡ build K (raiseAtom K s a) [])
-      → Made s n e q counts offs starts values c u 0 w b
+      → ((K : Computation) (a : Atom) (rest : List ℕ) → Given K shape starts values → q ≡ atomBytes a ++ rest → standing (shape .n) (full K) c w b ≡ build K (raiseAtom K s a) [])
+      → Made s shape q starts values c u 0 w b
   unfolding prefix
   made-atom c u w b k h first long stands = record {
     passed = λ f rest r. let g = tokens.at-atom q f rest r k in rw (g .1) (long (g .0) rest (g .2));
     stands = λ K f rest laid r. let g = tokens.at-atom q f rest r k in rw (g .1) (stands K (g .0) rest laid (g .2) ∙ normals.basis-atom s K (g .0));
     counted = λ K f rest laid r. let g = tokens.at-atom q f rest r k in rw (g .1) (normals.rounds-atom s K (g .0));
-    least = λ i g f. first (omega arith) (ap (λ (x : ℕ). getD w x 0) (sym (ap (λ (x : ℕ). x * ((e + 1) * n)) (let o : i ≡ 0 = omega arith in o) ∙ zero-mul ((e + 1) * n))) ∙ f);
+    least = λ i g f. first (omega arith) (ap (λ (x : ℕ). getD w x 0) (sym (ap (λ (x : ℕ). x * ((shape .e + 1) * shape .n)) (let o : i ≡ 0 = omega arith in o) ∙ zero-mul ((shape .e + 1) * shape .n))) ∙ f);
   }
 
   module _ (q′ : List ℕ) (d : q′ ≡ drop 1 q) where
     pub made-not : (c u v c₂ u₂ v₂ : ℕ) (w b : List ℕ) → getD q 0 0 ≡ 2 → c₂ ≡ c → u₂ ≡ u + 1 → v₂ ≡ v
-        → Made (flip s) n e q′ counts offs starts values c u v w b → Made s n e q counts offs starts values c₂ u₂ v₂ w b
+        → Made (flip s) shape q′ starts values c u v w b → Made s shape q starts values c₂ u₂ v₂ w b
     unfolding prefix
     made-not c u v c₂ u₂ v₂ w b k ec eu ev m = rw (ec, eu, ev) (record {
       passed = λ f rest r. let h = tokens.behind-not q f rest r k in rw (h .1) (omega (arith, m .passed (h .0) rest (d ∙ h .2)));
@@ -226,7 +217,7 @@ module _ (s : Bool) (n e : ℕ) (q counts offs starts values : List ℕ) where
     })
 
     pub made-modal : (t : Bool) (c u v c₂ u₂ v₂ : ℕ) (w b w₂ b₂ : List ℕ) → getD q 0 0 ≡ modalToken t → u₂ ≡ u + 1 → v₂ ≡ v
-        → Made t n e q′ counts offs starts values c u v w b → Lifted (Bool·beq t s) n e c starts w w₂ b b₂ c₂ → Made s n e q counts offs starts values c₂ u₂ v₂ w₂ b₂
+        → Made t shape q′ starts values c u v w b → Lifted (Bool·beq t s) shape c starts w w₂ b b₂ c₂ → Made s shape q starts values c₂ u₂ v₂ w₂ b₂
     made-modal t c u v c₂ u₂ v₂ w b w₂ b₂ k eu ev m l = rw (eu, ev) (record {
       passed = λ f rest r.
           let h = tokens.behind-modal q f rest r t k in
@@ -234,7 +225,7 @@ module _ (s : Bool) (n e : ℕ) (q counts offs starts values : List ℕ) where
           omega (arith, m .passed (h .0) rest (d ∙ h .2));
       stands = λ K f rest laid r.
           let h = tokens.behind-modal q f rest r t k in
-          l .stands K counts offs values laid ∙ ap (liftedBasis (Bool·beq t s) K) (m .stands K (h .0) rest laid (d ∙ h .2)) ∙ sym (normals.basis-lifted (Bool·beq t s) K (normal t (h .0)))
+          l .stands K (laid .0) ∙ ap (liftedBasis (Bool·beq t s) K) (m .stands K (h .0) rest laid (d ∙ h .2)) ∙ sym (normals.basis-lifted (Bool·beq t s) K (normal t (h .0)))
           ∙ ap (basis K) (sym (ap (normal s) (h .1) ∙ signed.normal-modal s t (h .0)));
       counted = λ K f rest laid r.
           let h = tokens.behind-modal q f rest r t k in
@@ -243,25 +234,25 @@ module _ (s : Bool) (n e : ℕ) (q counts offs starts values : List ℕ) where
     })
 
 -- What a step for possibly or not possibly is given.
-pub record LiftRoom (n e c u : ℕ) (starts w b : List ℕ) : Type 0 where
+pub record LiftRoom (shape : Shape) (c u : ℕ) (starts w b : List ℕ) : Type 0 where
   pub few : c ≤ 16
-  pub cells-fit : c * ((e + 1) * n) ≤ length w
-  pub bars-fit : c * (16 * n) ≤ length b
-  pub one-cells : (e + 1) * n ≤ length w
-  pub one-bars : 16 * n ≤ length b
+  pub cells-fit : c * ((shape .e + 1) * shape .n) ≤ length w
+  pub bars-fit : c * (16 * shape .n) ≤ length b
+  pub one-cells : (shape .e + 1) * shape .n ≤ length w
+  pub one-bars : 16 * shape .n ≤ length b
   pub short : u ≤ 192
 
-pub lift-room : (s t : Bool) (n e : ℕ) (q q′ counts offs starts values : List ℕ) (mw mb : ℕ) (r : Ready s n e q counts offs starts values mw mb) (d : q′ ≡ drop 1 q)
-    → getD q 0 0 ≡ modalToken t → (c u v : ℕ) (w b : List ℕ) → length w ≡ mw → length b ≡ mb → Made t n e q′ counts offs starts values c u v w b → LiftRoom n e c u starts w b
-lift-room s t n e q q′ counts offs starts values mw mb r d k c u v w b lw lb m =
-    let r′ = ready-modal s n e q counts offs starts values mw mb r q′ d t k in
-    let z = done t n e q′ counts offs starts values c u v w b m mw mb r′ in
+pub lift-room : (s t : Bool) (shape : Shape) (q q′ starts values : List ℕ) (mw mb : ℕ) (r : Ready s shape q starts values mw mb) (d : q′ ≡ drop 1 q)
+    → getD q 0 0 ≡ modalToken t → (c u v : ℕ) (w b : List ℕ) → length w ≡ mw → length b ≡ mb → Made t shape q′ starts values c u v w b → LiftRoom shape c u starts w b
+lift-room s t shape q q′ starts values mw mb r d k c u v w b lw lb m =
+    let r′ = ready-modal s shape q starts values mw mb r q′ d t k in
+    let z = done t shape q′ starts values c u v w b m mw mb r′ in
     let h : c ≤ held (normal t (r′ .formula)) = omega (arith, z .wide, width-held (normal t (r′ .formula))) in
     record {
       few = z .few;
-      cells-fit = omega (arith, mul-le-mul-right ((e + 1) * n) h, r′ .cells-fit);
-      bars-fit = omega (arith, mul-le-mul-right (16 * n) h, r′ .bars-fit);
-      one-cells = omega (arith, atom-cells t n e q′ counts offs starts values mw mb r′);
-      one-bars = omega (arith, atom-bars t n e q′ counts offs starts values mw mb r′);
+      cells-fit = omega (arith, mul-le-mul-right ((shape .e + 1) * shape .n) h, r′ .cells-fit);
+      bars-fit = omega (arith, mul-le-mul-right (16 * shape .n) h, r′ .bars-fit);
+      one-cells = omega (arith, atom-cells t shape q′ starts values mw mb r′);
+      one-bars = omega (arith, atom-bars t shape q′ starts values mw mb r′);
       short = z .short;
     }

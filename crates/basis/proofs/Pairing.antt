@@ -19,6 +19,7 @@ use Rattle.model.specs.Structure.{Structure}
 use Rattle.model.specs.Basis.{basis}
 use Rattle.model.specs.Rounds.{rounds}
 use Rattle.structure.specs.Layout.{structureAt, standing, barsAt, cells, barCells}
+use Rattle.structure.specs.declared.Shape.{Shape}
 use Rattle.structure.specs.Laid.{Laid}
 use Rattle.lattice.proofs.Signed as signed
 use Rattle.lattice.specs.Signed.{normal, two, joinedForm}
@@ -28,10 +29,10 @@ use Rattle.lattice.proofs.Held.{held-both}
 use Rattle.structure.proofs.Places.{one-more, cells-are}
 use Rattle.structure.proofs.Standing.{standing-same, length-standing}
 use Rattle.modal.specs.Post.{Least}
-use Rattle.structure.proofs.Parts.{put-end}
+use Rattle.cells.proofs.Parts.{put-end}
 use Rattle.modal.proofs.Laws.{part-room}
 use Rattle.basis.specs.Signed.{twoToken, joinedBasis, joinedRounds}
-use Rattle.basis.specs.Contract.{Ready, Made, Combined}
+use Rattle.basis.specs.Contract.{roundsMost, Ready, Made, Combined}
 use Rattle.pairs.specs.Post.{PairsReady}
 use Rattle.basis.proofs.Tokens as tokens
 use Rattle.basis.proofs.Normals as normals
@@ -51,15 +52,15 @@ bars-at n counts (suc k) w b S (suc i) h =
 pub record Left (n e c u v l mw mb : ℕ) : Type 0 where
   pub few : c ≤ 16
   pub short : u ≤ 192
-  pub small : v ≤ 16777216
+  pub small : v ≤ roundsMost
   pub within : u + 1 ≤ l
   pub cells-fit : c * ((e + 1) * n) ≤ mw
   pub bars-fit : c * (16 * n) ≤ mb
   pub bars-small : c * (16 * n) ≤ 2048
 
-module _ (s b : Bool) (n e : ℕ) (q q′ counts offs starts values : List ℕ) (w₀ b₀ : List ℕ)
-    (r : Ready s n e q counts offs starts values (length w₀) (length b₀)) (k : getD q 0 0 ≡ twoToken b) (d : q′ ≡ drop 1 q)
-    (c u v : ℕ) (w bs : List ℕ) (lw : length w ≡ length w₀) (lb : length bs ≡ length b₀) (m : Made s n e q′ counts offs starts values c u v w bs) where
+module _ (s b : Bool) (shape : Shape) (q q′ starts values : List ℕ) (w₀ b₀ : List ℕ)
+    (r : Ready s shape q starts values (length w₀) (length b₀)) (k : getD q 0 0 ≡ twoToken b) (d : q′ ≡ drop 1 q)
+    (c u v : ℕ) (w bs : List ℕ) (lw : length w ≡ length w₀) (lb : length bs ≡ length b₀) (m : Made s shape q′ starts values c u v w bs) where
   f₁ : Formula
   f₁ = tokens.behind-two q (r .formula) (r .rest) (r .reads) b k .0
 
@@ -67,10 +68,10 @@ module _ (s b : Bool) (n e : ℕ) (q q′ counts offs starts values : List ℕ) 
   f₂ = tokens.behind-two q (r .formula) (r .rest) (r .reads) b k .1
 
   abbrev size : ℕ
-  size = (e + 1) * n
+  size = (shape .e + 1) * shape .n
 
   abbrev slot : ℕ
-  slot = 16 * n
+  slot = 16 * shape .n
 
   is-two : r .formula ≡ two b f₁ f₂
   unfolding f₁ f₂
@@ -88,7 +89,7 @@ module _ (s b : Bool) (n e : ℕ) (q q′ counts offs starts values : List ℕ) 
 
   left-done : Done c u v (normal s f₁) (length q′)
   left-done =
-      done-at s n e q′ counts offs starts values c u v w bs m (r .computation) (r .laid) f₁ (prefix f₂ ++ r .rest) (d ∙ reads-two) (slims .0)
+      done-at s shape q′ starts values c u v w bs m (r .computation) (r .laid) f₁ (prefix f₂ ++ r .rest) (d ∙ reads-two) (slims .0)
       (omega (arith, r .short, ap tokens is-two, signed.weigh-two 1 1 1 b f₁ f₂))
 
   sum-held : c + held (normal s f₂) ≤ held (normal s (r .formula))
@@ -101,15 +102,15 @@ module _ (s b : Bool) (n e : ℕ) (q q′ counts offs starts values : List ℕ) 
   bars-two : c * slot + held (normal s f₂) * slot ≤ length bs
   bars-two = omega (arith, mul-le-mul-right slot sum-held, add-mul c (held (normal s f₂)) slot, r .bars-fit, lb)
 
-  pub left : Left n e c u v (length q) (length w) (length bs)
+  pub left : Left (shape .n) (shape .e) c u v (length q) (length w) (length bs)
   left = record {
     few = left-done .few;
     short = left-done .short;
     small = left-done .small;
-    within = omega (arith, left-done .within, ap length d, length-drop 1 q, question-some s n e q counts offs starts values (length w₀) (length b₀) r);
+    within = omega (arith, left-done .within, ap length d, length-drop 1 q, question-some s shape q starts values (length w₀) (length b₀) r);
     cells-fit = omega (arith, cells-two);
     bars-fit = omega (arith, bars-two);
-    bars-small = mul-le-mul {n₁ = c} {m₁ = 16 * n} {n₂ = 16} {m₂ = 128} (left-done .few) (omega (arith, r .laid .few-stations));
+    bars-small = mul-le-mul {n₁ = c} {m₁ = 16 * shape .n} {n₂ = 16} {m₂ = 128} (left-done .few) (omega (arith, r .laid .0 .shaped .few-stations));
   }
 
   used-is : u ≡ length (prefix f₁)
@@ -117,23 +118,23 @@ module _ (s b : Bool) (n e : ℕ) (q q′ counts offs starts values : List ℕ) 
 
   module _ (q₂ : List ℕ) (d₂ : q₂ ≡ drop (u + 1) q) where
     pub right-shorter : length q₂ < length q
-    right-shorter = omega (arith, ap length d₂, length-drop (u + 1) q, question-some s n e q counts offs starts values (length w₀) (length b₀) r)
+    right-shorter = omega (arith, ap length d₂, length-drop (u + 1) q, question-some s shape q starts values (length w₀) (length b₀) r)
 
-    pub right-ready : Ready s n e q₂ counts offs starts values (length (take (length w - c * size) (drop (c * size) w))) (length (take (length bs - c * slot) (drop (c * slot) bs)))
+    pub right-ready : Ready s shape q₂ starts values (length (take (length w - c * size) (drop (c * size) w))) (length (take (length bs - c * slot) (drop (c * slot) bs)))
     right-ready = record {
       computation = r .computation;
       laid = r .laid;
       formula = f₂;
       rest = r .rest;
       reads = d₂ ∙ tokens.second q u (prefix f₁) (prefix f₂ ++ r .rest) reads-two used-is;
-      known = and-true (sound n f₁) (sound n f₂) .0 (sym (ap (sound n) is-two ∙ signed.sound-two n b f₁ f₂) ∙ r .known) .1;
+      known = and-true (sound (shape .n) f₁) (sound (shape .n) f₂) .0 (sym (ap (sound (shape .n)) is-two ∙ signed.sound-two (shape .n) b f₁ f₂) ∙ r .known) .1;
       slim = slims .1;
       short = omega (arith, r .short, ap tokens is-two, signed.weigh-two 1 1 1 b f₁ f₂);
       cells-fit = part-room (c * size) (held (normal s f₂) * size) w cells-two;
       bars-fit = part-room (c * slot) (held (normal s f₂) * slot) bs bars-two;
     }
 
-    module _ (c₂ u₂ v₂ : ℕ) (p pb : List ℕ) (m₂ : Made s n e q₂ counts offs starts values c₂ u₂ v₂ p pb)
+    module _ (c₂ u₂ v₂ : ℕ) (p pb : List ℕ) (m₂ : Made s shape q₂ starts values c₂ u₂ v₂ p pb)
         (lp : length p ≡ length (take (length w - c * size) (drop (c * size) w))) (lpb : length pb ≡ length (take (length bs - c * slot) (drop (c * slot) bs))) where
       abbrev w₃ : List ℕ
       w₃ = putMid (c * size) (length w - c * size) w p
@@ -143,10 +144,10 @@ module _ (s b : Bool) (n e : ℕ) (q q′ counts offs starts values : List ℕ) 
 
       right-done : Done c₂ u₂ v₂ (normal s f₂) (length q₂)
       right-done =
-          done-at s n e q₂ counts offs starts values c₂ u₂ v₂ p pb m₂ (r .computation) (r .laid) f₂ (r .rest) (d₂ ∙ tokens.second q u (prefix f₁) (prefix f₂ ++ r .rest) reads-two used-is) (slims .1)
+          done-at s shape q₂ starts values c₂ u₂ v₂ p pb m₂ (r .computation) (r .laid) f₂ (r .rest) (d₂ ∙ tokens.second q u (prefix f₁) (prefix f₂ ++ r .rest) reads-two used-is) (slims .1)
           (omega (arith, r .short, ap tokens is-two, signed.weigh-two 1 1 1 b f₁ f₂))
 
-      pub right-few : (c₂ ≤ 16) × (u₂ ≤ 192) × (v₂ ≤ 16777216)
+      pub right-few : (c₂ ≤ 16) × (u₂ ≤ 192) × (v₂ ≤ roundsMost)
       right-few = (right-done .few, right-done .short, right-done .small)
 
       w-is : w₃ ≡ take (c * size) w ++ p
@@ -161,25 +162,25 @@ module _ (s b : Bool) (n e : ℕ) (q q′ counts offs starts values : List ℕ) 
       lb₁ : length (take (c * slot) bs) ≡ c * slot
       lb₁ = length-take-le (c * slot) bs (left .bars-fit)
 
-      module _ (K : Computation) (counts₂ offs₂ values₂ : List ℕ) (laid : Laid K n e counts₂ offs₂ starts values₂) where
-        cells-is : suc (total (full K)) * n ≡ size
-        cells-is = cells-are n e (full K) (laid .counted)
+      module _ (K : Computation) (laid : Laid K shape starts) where
+        cells-is : suc (total (full K)) * shape .n ≡ size
+        cells-is = cells-are (shape .n) (shape .e) (full K) (laid .counted)
 
-        left-stands : standing n (full K) c w₃ b₃ ≡ standing n (full K) c w bs
+        left-stands : standing (shape .n) (full K) c w₃ b₃ ≡ standing (shape .n) (full K) c w bs
         left-stands =
-            let x : take (c * cells n (full K)) w₃ ≡ take (c * cells n (full K)) w =
+            let x : take (c * cells (shape .n) (full K)) w₃ ≡ take (c * cells (shape .n) (full K)) w =
             ap (λ (y : ℕ). take (c * y) w₃) cells-is ∙ ap (take (c * size)) w-is ∙ take-at (take (c * size) w) p (c * size) lw₁ ∙ ap (λ (y : ℕ). take (c * y) w) (sym cells-is) in
-            standing-same n (full K) c w₃ w b₃ bs (laid .some-station) x (ap (take (c * slot)) b-is ∙ take-at (take (c * slot) bs) pb (c * slot) lb₁)
+            standing-same (shape .n) (full K) c w₃ w b₃ bs (laid .shaped .some-station) x (ap (take (c * slot)) b-is ∙ take-at (take (c * slot) bs) pb (c * slot) lb₁)
 
-        right-stands : standing n (full K) c₂ (drop (c * size) w₃) (drop (c * slot) b₃) ≡ standing n (full K) c₂ p pb
+        right-stands : standing (shape .n) (full K) c₂ (drop (c * size) w₃) (drop (c * slot) b₃) ≡ standing (shape .n) (full K) c₂ p pb
         right-stands =
-            ap₂ (standing n (full K) c₂) (ap (drop (c * size)) w-is ∙ drop-at (take (c * size) w) p (c * size) lw₁) (ap (drop (c * slot)) b-is ∙ drop-at (take (c * slot) bs) pb (c * slot) lb₁)
+            ap₂ (standing (shape .n) (full K) c₂) (ap (drop (c * size)) w-is ∙ drop-at (take (c * size) w) p (c * size) lw₁) (ap (drop (c * slot)) b-is ∙ drop-at (take (c * slot) bs) pb (c * slot) lb₁)
 
       pub least-both : Least size (c + c₂) w₃
       least-both i h f = go (ltb i c) refl
         where
           z : 0 < size
-          z = omega (arith, one-more e n, r .laid .some-station)
+          z = omega (arith, one-more (shape .e) (shape .n), r .laid .0 .shaped .some-station)
 
           go : (t : Bool) → ltb i c ≡ t → ⊥
           go true g =
@@ -194,7 +195,7 @@ module _ (s b : Bool) (n e : ℕ) (q q′ counts offs starts values : List ℕ) 
               (sym (getD-append-add (take (c * size) w) p ((i - c) * size) 0) ∙ ap₂ (λ (x : List ℕ) (y : ℕ). getD x y 0) (sym w-is) (sym o) ∙ f)
 
       module _ (t : Bool) (flag : t ≡ Bool·beq b s) where
-        pub pairs-ready : t ≡ true → PairsReady n e c c₂ w₃ b₃
+        pub pairs-ready : t ≡ true → PairsReady (shape .n) (shape .e) c c₂ w₃ b₃
         unfolding width
         pairs-ready g =
             let pair : normal s (r .formula) ≡ both (normal s f₁) (normal s f₂) = form ∙ ap (λ (x : Bool). joinedForm x (normal s f₁) (normal s f₂)) (sym flag ∙ g) in
@@ -203,10 +204,10 @@ module _ (s b : Bool) (n e : ℕ) (q q′ counts offs starts values : List ℕ) 
             let tot : c + c₂ + c * c₂ ≤ held (normal s (r .formula)) = omega (arith, held-both (normal s f₁) (normal s f₂) .2, ap held pair, left-done .wide, right-done .wide, prod) in
             let len : length w₃ ≡ length w₀ = same-len-mid (c * size) (length w - c * size) w p lp ∙ lw in
             let lenb : length b₃ ≡ length b₀ = same-len-mid (c * slot) (length bs - c * slot) bs pb lpb ∙ lb in
-            let L : standing n (full (r .computation)) c w₃ b₃ ≡ basis (r .computation) (normal s f₁) =
-            left-stands (r .computation) counts offs values (r .laid) ∙ m .stands (r .computation) f₁ (prefix f₂ ++ r .rest) (r .laid) (d ∙ reads-two) in
-            let R : standing n (full (r .computation)) c₂ (drop (c * size) w₃) (drop (c * slot) b₃) ≡ basis (r .computation) (normal s f₂) =
-            right-stands (r .computation) counts offs values (r .laid) ∙ m₂ .stands (r .computation) f₂ (r .rest) (r .laid) (d₂ ∙ tokens.second q u (prefix f₁) (prefix f₂ ++ r .rest) reads-two used-is) in
+            let L : standing (shape .n) (full (r .computation)) c w₃ b₃ ≡ basis (r .computation) (normal s f₁) =
+            left-stands (r .computation) (r .laid .0) ∙ m .stands (r .computation) f₁ (prefix f₂ ++ r .rest) (r .laid) (d ∙ reads-two) in
+            let R : standing (shape .n) (full (r .computation)) c₂ (drop (c * size) w₃) (drop (c * slot) b₃) ≡ basis (r .computation) (normal s f₂) =
+            right-stands (r .computation) (r .laid .0) ∙ m₂ .stands (r .computation) f₂ (r .rest) (r .laid) (d₂ ∙ tokens.second q u (prefix f₁) (prefix f₂ ++ r .rest) reads-two used-is) in
             record {
               few = omega (arith, prod, nb .0);
               left = left-done .few;
@@ -215,27 +216,27 @@ module _ (s b : Bool) (n e : ℕ) (q q′ counts offs starts values : List ℕ) 
               bars-fit = omega (arith, mul-le-mul-right slot tot, r .bars-fit, lenb);
               least = least-both;
               bars = λ i j hi hj.
-                  let x : length (barsAt n 16 (drop (i * slot) b₃)) ≤ bars (normal s f₁) =
+                  let x : length (barsAt (shape .n) 16 (drop (i * slot) b₃)) ≤ bars (normal s f₁) =
                   omega (
                     arith,
-                    ap length (sym (bars-at n (full (r .computation)) c w₃ b₃ (structureAt n [] [] []) i hi)),
-                    ap (λ (l : List Structure). length ((getD l i (structureAt n [] [] [])) .bars)) L,
-                    basis-bars-at (r .computation) (normal s f₁) (structureAt n [] [] []) i (omega (arith, ap length (sym L), length-standing n (full (r .computation)) c w₃ b₃)),
+                    ap length (sym (bars-at (shape .n) (full (r .computation)) c w₃ b₃ (structureAt (shape .n) [] [] []) i hi)),
+                    ap (λ (l : List Structure). length ((getD l i (structureAt (shape .n) [] [] [])) .bars)) L,
+                    basis-bars-at (r .computation) (normal s f₁) (structureAt (shape .n) [] [] []) i (omega (arith, ap length (sym L), length-standing (shape .n) (full (r .computation)) c w₃ b₃)),
                   ) in
                   let o : drop ((c + j) * slot) b₃ ≡ drop (j * slot) (drop (c * slot) b₃) = ap (λ (a : ℕ). drop a b₃) (add-mul c j slot) ∙ sym (drop-drop (j * slot) (c * slot) b₃) in
-                  let y : length (barsAt n 16 (drop ((c + j) * slot) b₃)) ≤ bars (normal s f₂) =
+                  let y : length (barsAt (shape .n) 16 (drop ((c + j) * slot) b₃)) ≤ bars (normal s f₂) =
                   omega (
                     arith,
-                    ap (λ (l : List ℕ). length (barsAt n 16 l)) o,
-                    ap length (sym (bars-at n (full (r .computation)) c₂ (drop (c * size) w₃) (drop (c * slot) b₃) (structureAt n [] [] []) j hj)),
-                    ap (λ (l : List Structure). length ((getD l j (structureAt n [] [] [])) .bars)) R,
-                    basis-bars-at (r .computation) (normal s f₂) (structureAt n [] [] []) j (omega (arith, ap length (sym R), length-standing n (full (r .computation)) c₂ (drop (c * size) w₃) (drop (c * slot) b₃))),
+                    ap (λ (l : List ℕ). length (barsAt (shape .n) 16 l)) o,
+                    ap length (sym (bars-at (shape .n) (full (r .computation)) c₂ (drop (c * size) w₃) (drop (c * slot) b₃) (structureAt (shape .n) [] [] []) j hj)),
+                    ap (λ (l : List Structure). length ((getD l j (structureAt (shape .n) [] [] [])) .bars)) R,
+                    basis-bars-at (r .computation) (normal s f₂) (structureAt (shape .n) [] [] []) j (omega (arith, ap length (sym R), length-standing (shape .n) (full (r .computation)) c₂ (drop (c * size) w₃) (drop (c * slot) b₃))),
                   ) in
                   omega (arith, nb .1);
             }
 
-        pub made-two : (c₃ u₃ v₃ : ℕ) (w₄ b₄ : List ℕ) → u₃ ≡ u + 1 + u₂ → Combined t n e c c₂ v v₂ counts starts w₃ w₄ b₃ b₄ c₃ v₃
-            → Made s n e q counts offs starts values c₃ u₃ v₃ w₄ b₄
+        pub made-two : (c₃ u₃ v₃ : ℕ) (w₄ b₄ : List ℕ) → u₃ ≡ u + 1 + u₂ → Combined t shape c c₂ v v₂ starts w₃ w₄ b₃ b₄ c₃ v₃
+            → Made s shape q starts values c₃ u₃ v₃ w₄ b₄
         made-two c₃ u₃ v₃ w₄ b₄ eu C = record {
           passed = λ f rest rd.
               let h = tokens.behind-two q f rest rd b k in
@@ -246,9 +247,9 @@ module _ (s b : Bool) (n e : ℕ) (q q′ counts offs starts values : List ℕ) 
           stands = λ K f rest laid rd.
               let h = tokens.behind-two q f rest rd b k in
               let x : u ≡ length (prefix (h .0)) = m .passed (h .0) (prefix (h .1) ++ rest) (d ∙ h .3) in
-              C .joined .stands K offs values laid
-              ∙ ap₂ (joinedBasis t K) (left-stands K counts offs values laid ∙ m .stands K (h .0) (prefix (h .1) ++ rest) laid (d ∙ h .3))
-              (right-stands K counts offs values laid ∙ m₂ .stands K (h .1) rest laid (d₂ ∙ tokens.second q u (prefix (h .0)) (prefix (h .1) ++ rest) (h .3) x))
+              C .joined .stands K (laid .0)
+              ∙ ap₂ (joinedBasis t K) (left-stands K (laid .0) ∙ m .stands K (h .0) (prefix (h .1) ++ rest) laid (d ∙ h .3))
+              (right-stands K (laid .0) ∙ m₂ .stands K (h .1) rest laid (d₂ ∙ tokens.second q u (prefix (h .0)) (prefix (h .1) ++ rest) (h .3) x))
               ∙ ap (λ (g : Bool). joinedBasis g K (basis K (normal s (h .0))) (basis K (normal s (h .1)))) flag
               ∙ sym (normals.basis-joined (Bool·beq b s) K (normal s (h .0)) (normal s (h .1))) ∙ ap (basis K) (sym (ap (normal s) (h .2) ∙ signed.normal-two s b (h .0) (h .1)));
           counted = λ K f rest laid rd.
@@ -256,9 +257,9 @@ module _ (s b : Bool) (n e : ℕ) (q q′ counts offs starts values : List ℕ) 
               let x : u ≡ length (prefix (h .0)) = m .passed (h .0) (prefix (h .1) ++ rest) (d ∙ h .3) in
               let rr : drop (u + 1) q ≡ prefix (h .1) ++ rest = tokens.second q u (prefix (h .0)) (prefix (h .1) ++ rest) (h .3) x in
               let j : C .joined-rounds ≡ joinedRounds (Bool·beq b s) K (basis K (normal s (h .0))) (basis K (normal s (h .1))) =
-              C .joined .summed K offs values laid
-              ∙ ap₂ (joinedRounds t K) (left-stands K counts offs values laid ∙ m .stands K (h .0) (prefix (h .1) ++ rest) laid (d ∙ h .3))
-              (right-stands K counts offs values laid ∙ m₂ .stands K (h .1) rest laid (d₂ ∙ rr))
+              C .joined .summed K (laid .0)
+              ∙ ap₂ (joinedRounds t K) (left-stands K (laid .0) ∙ m .stands K (h .0) (prefix (h .1) ++ rest) laid (d ∙ h .3))
+              (right-stands K (laid .0) ∙ m₂ .stands K (h .1) rest laid (d₂ ∙ rr))
               ∙ ap (λ (g : Bool). joinedRounds g K (basis K (normal s (h .0))) (basis K (normal s (h .1)))) flag in
               let z : rounds K (normal s f) ≡ rounds K (normal s (h .0)) + rounds K (normal s (h .1)) + joinedRounds (Bool·beq b s) K (basis K (normal s (h .0))) (basis K (normal s (h .1))) =
               ap (rounds K) (ap (normal s) (h .2) ∙ signed.normal-two s b (h .0) (h .1)) ∙ normals.rounds-joined (Bool·beq b s) K (normal s (h .0)) (normal s (h .1)) in

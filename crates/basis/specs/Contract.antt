@@ -4,57 +4,65 @@ use mathlib.Core.Path.{_≡_}
 use mathlib.Core.Bool.{Bool, true}
 use mathlib.Core.List.{List, _++_}
 use lib.ListN.{length, drop}
+use Rattle.model.specs.Limits.{stepRounds}
 use Rattle.model.specs.Formula.{Formula, prefix, sound, tokens}
 use Rattle.model.specs.Computation.{Computation, full}
 use Rattle.model.specs.Size.{held, narrow}
 use Rattle.model.specs.Basis.{basis}
 use Rattle.model.specs.Rounds.{rounds}
 use Rattle.structure.specs.Layout.{standing}
-use Rattle.structure.specs.Laid.{Laid}
+use Rattle.structure.specs.declared.Shape.{Shape}
+use Rattle.structure.specs.Laid.{Laid, Facts}
 use Rattle.modal.specs.Post.{Least}
 use Rattle.lattice.specs.Signed.{normal}
 use Rattle.basis.specs.Signed.{joinedBasis, joinedRounds, liftedBasis}
 
--- A computation is laid out in the tables, a formula stands at the front of q, is narrow under the sign s, and there is room for what is held.
-pub record Ready (s : Bool) (n e : ℕ) (q counts offs starts values : List ℕ) (mw mb : ℕ) : Type 0 where
+-- The most rounds of a question.
+abbrev pub roundsMost : ℕ
+roundsMost = 64 * stepRounds
+
+-- K is laid out, with what its atoms look at.
+abbrev pub Given : Computation → Shape → List ℕ → List ℕ → Type 0
+Given K x starts facts = Laid K x starts × Facts K x facts
+
+-- A computation is laid out, a formula stands at the front of q, is narrow under the sign s, and there is room for what is held.
+pub record Ready (s : Bool) (x : Shape) (q starts facts : List ℕ) (mw mb : ℕ) : Type 0 where
   pub computation : Computation
-  pub laid : Laid computation n e counts offs starts values
+  pub laid : Given computation x starts facts
   pub formula : Formula
   pub rest : List ℕ
   pub reads : q ≡ prefix formula ++ rest
-  pub known : sound n formula ≡ true
+  pub known : sound (x .n) formula ≡ true
   pub slim : narrow (normal s formula) ≡ true
   pub short : tokens formula ≤ 32
-  pub cells-fit : held (normal s formula) * ((e + 1) * n) ≤ mw
-  pub bars-fit : held (normal s formula) * (16 * n) ≤ mb
+  pub cells-fit : held (normal s formula) * ((x .e + 1) * x .n) ≤ mw
+  pub bars-fit : held (normal s formula) * (16 * x .n) ≤ mb
 
 -- Whatever computation is laid out and whatever formula stands at the front of q: its length, its basis at the front of w and b, its rounds.
-pub record Made (s : Bool) (n e : ℕ) (q counts offs starts values : List ℕ) (count used sum : ℕ) (w b : List ℕ) : Type 0 where
+pub record Made (s : Bool) (x : Shape) (q starts facts : List ℕ) (count used sum : ℕ) (w b : List ℕ) : Type 0 where
   pub passed : (f : Formula) (rest : List ℕ) → q ≡ prefix f ++ rest → used ≡ length (prefix f)
-  pub stands : (K : Computation) (f : Formula) (rest : List ℕ) → Laid K n e counts offs starts values → q ≡ prefix f ++ rest
-      → standing n (full K) count w b ≡ basis K (normal s f)
-  pub counted : (K : Computation) (f : Formula) (rest : List ℕ) → Laid K n e counts offs starts values → q ≡ prefix f ++ rest → sum ≡ rounds K (normal s f)
-  pub least : Least ((e + 1) * n) count w
+  pub stands : (K : Computation) (f : Formula) (rest : List ℕ) → Given K x starts facts → q ≡ prefix f ++ rest → standing (x .n) (full K) count w b ≡ basis K (normal s f)
+  pub counted : (K : Computation) (f : Formula) (rest : List ℕ) → Given K x starts facts → q ≡ prefix f ++ rest → sum ≡ rounds K (normal s f)
+  pub least : Least ((x .e + 1) * x .n) count w
 
 -- STEPS
 
 -- The l structures at the front of w and b and the r behind them became those at the front of w₂ and b₂, in `sum` rounds.
-pub record Joined (pair : Bool) (n e l r : ℕ) (counts starts w w₂ b b₂ : List ℕ) (count sum : ℕ) : Type 0 where
-  pub stands : (K : Computation) (offs values : List ℕ) → Laid K n e counts offs starts values
-      → standing n (full K) count w₂ b₂ ≡ joinedBasis pair K (standing n (full K) l w b) (standing n (full K) r (drop (l * ((e + 1) * n)) w) (drop (l * (16 * n)) b))
-  pub summed : (K : Computation) (offs values : List ℕ) → Laid K n e counts offs starts values
-      → sum ≡ joinedRounds pair K (standing n (full K) l w b) (standing n (full K) r (drop (l * ((e + 1) * n)) w) (drop (l * (16 * n)) b))
-  pub least : Least ((e + 1) * n) count w₂
-  pub small : sum ≤ 262144
+pub record Joined (pair : Bool) (x : Shape) (l r : ℕ) (starts w w₂ b b₂ : List ℕ) (count sum : ℕ) : Type 0 where
+  pub stands : (K : Computation) → Laid K x starts
+      → standing (x .n) (full K) count w₂ b₂ ≡ joinedBasis pair K (standing (x .n) (full K) l w b) (standing (x .n) (full K) r (drop (l * ((x .e + 1) * x .n)) w) (drop (l * (16 * x .n)) b))
+  pub summed : (K : Computation) → Laid K x starts
+      → sum ≡ joinedRounds pair K (standing (x .n) (full K) l w b) (standing (x .n) (full K) r (drop (l * ((x .e + 1) * x .n)) w) (drop (l * (16 * x .n)) b))
+  pub least : Least ((x .e + 1) * x .n) count w₂
+  pub small : sum ≤ stepRounds
 
 -- The same with the rounds u and v of the two bases.
-pub record Combined (pair : Bool) (n e l r u v : ℕ) (counts starts w w₂ b b₂ : List ℕ) (count sum : ℕ) : Type 0 where
+pub record Combined (pair : Bool) (x : Shape) (l r u v : ℕ) (starts w w₂ b b₂ : List ℕ) (count sum : ℕ) : Type 0 where
   pub joined-rounds : ℕ
-  pub joined : Joined pair n e l r counts starts w w₂ b b₂ count joined-rounds
+  pub joined : Joined pair x l r starts w w₂ b b₂ count joined-rounds
   pub summed : sum ≡ u + v + joined-rounds
 
 -- The k structures at the front of w and b became the count at the front of w₂ and b₂.
-pub record Lifted (wide : Bool) (n e k : ℕ) (starts w w₂ b b₂ : List ℕ) (count : ℕ) : Type 0 where
-  pub stands : (K : Computation) (counts offs values : List ℕ) → Laid K n e counts offs starts values
-      → standing n (full K) count w₂ b₂ ≡ liftedBasis wide K (standing n (full K) k w b)
-  pub least : Least ((e + 1) * n) count w₂
+pub record Lifted (wide : Bool) (x : Shape) (k : ℕ) (starts w w₂ b b₂ : List ℕ) (count : ℕ) : Type 0 where
+  pub stands : (K : Computation) → Laid K x starts → standing (x .n) (full K) count w₂ b₂ ≡ liftedBasis wide K (standing (x .n) (full K) k w b)
+  pub least : Least ((x .e + 1) * x .n) count w₂

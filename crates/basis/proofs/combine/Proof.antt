@@ -19,10 +19,10 @@ rounds-of-requires c κs = search needs
 pair-all-requires : tie.Need-pair-all-requires
 pair-all-requires c κs =
     let p = c .before .before .before .before .before .before .before .before .before .pre in
-    (p .0, ((p .1 .0 .8, p .1 .0 .0, p .1 .0 .1), p .1 .1 .1 (c .before .before .if1 .taken)))
+    (p .0, (p .1 .0 .0, p .1 .1 .1 (c .before .before .if1 .taken)))
 
-add-t22 : tie.Need-add-t22
-add-t22 c =
+add-t19 : tie.Need-add-t19
+add-t19 c =
     omega (arith, c .before .before .before .before .before .pair-all .ensures .small, c .before .before .before .before .before .before .before .before .before .rounds-of .ensures, c .before .before .before .before .before .before .before .before .before .before .before .before .before .before .before .pre .1 .0)
 
 same-length : tie.Need-same-length
@@ -34,15 +34,15 @@ same-length-2 c = search needs
 returns : tie.Need-returns
 returns c =
     let a = c .before .before .before .before .before .before .before .before .before .before .before .before .before .before .before .args in
-    (refl, laws.combined-pairs (a .n) (a .e) (a .l .count) (a .r .count) (a .l .rounds) (a .r .rounds) (a .counts .now) (a .starts .now) (a .ws .now) _ (a .bs .now) _ _ _ _ (a .pair) (c .before .before .before .before .before .before .before .before .if1 .taken) (ap (λ (x : ℕ). x + c .before .before .before .before .before .pair-all .result .rounds) (c .before .before .before .before .before .before .before .before .before .rounds-of .ensures)) (c .before .before .before .before .before .pair-all .ensures))
+    (refl, laws.combined-pairs (a .x) (a .l .count) (a .r .count) (a .l .rounds) (a .r .rounds) (a .starts .now) (a .ws .now) _ (a .bs .now) _ _ _ _ (a .pair) (c .before .before .before .before .before .before .before .before .if1 .taken) (ap (λ (x : ℕ). x + c .before .before .before .before .before .pair-all .result .rounds) (c .before .before .before .before .before .before .before .before .before .rounds-of .ensures)) (c .before .before .before .before .before .pair-all .ensures))
 
-add-t16 : tie.Need-add-t16
-add-t16 c = search needs
+add-t13 : tie.Need-add-t13
+add-t13 c = search needs
 
 returns-2 : tie.Need-returns-2
 returns-2 c =
     let a = c .before .before .before .before .before .before .before .args in
-    (refl, laws.combined-all (a .n) (a .e) (a .l .count) (a .r .count) (a .l .rounds) (a .r .rounds) (a .counts .now) (a .starts .now) (a .ws .now) (a .bs .now) _ _ (a .pair) (c .if1 .left) refl (c .before .rounds-of .ensures) (c .before .before .before .before .before .before .before .pre .1 .1 .0))
+    (refl, laws.combined-all (a .x) (a .l .count) (a .r .count) (a .l .rounds) (a .r .rounds) (a .starts .now) (a .ws .now) (a .bs .now) _ _ (a .pair) (c .if1 .left) refl (c .before .rounds-of .ensures) (c .before .before .before .before .before .before .before .pre .1 .1 .0))
 
 pub combine-spec : {M : Type 1} → statement M
 combine-spec =
@@ -52,9 +52,9 @@ combine-spec =
     add-used-2
     rounds-of-requires
     pair-all-requires
-    add-t22
+    add-t19
     same-length
     same-length-2
     returns
-    add-t16
+    add-t13
     returns-2)

@@ -5,6 +5,7 @@ use native.Mathlib.Omega.{arith}
 use mathlib.Core.List.{List}
 use mathlib.Core.Bool.{Bool}
 use lib.ListN.{getD}
+use Rattle.structure.specs.declared.Shape.{Shape}
 use Rattle.basis.specs.Contract.{Ready}
 use Rattle.basis.proofs.Atoms.{head-is, token-is}
 use Rattle.basis.proofs.Operands as laws
@@ -13,14 +14,14 @@ use Rattle.basis.proofs.leaf.Statement.{statement}
 use Rattle.basis.proofs.leaf.Tie as tie
 
 -- The token is an atom's.
-token-there : (s : Bool) (n e : ℕ) (q counts offs starts values : List ℕ) (mw mb : ℕ) → Ready s n e q counts offs starts values mw mb
+token-there : (s : Bool) (x : Shape) (q starts facts : List ℕ) (mw mb : ℕ) → Ready s x q starts facts mw mb
     → (1 < getD q 0 0 → getD q 0 0 < 7 → ⊥) → getD q 0 0 ≡ 1
-token-there s n e q counts offs starts values mw mb r k =
-    let h = laws.ready-atom s n e q counts offs starts values mw mb r k in
+token-there s x q starts facts mw mb r k =
+    let h = laws.ready-atom s x q starts facts mw mb r k in
     ap (λ (l : List ℕ). getD l 0 0) (h .1) ∙ head-is (h .0) (r .rest) ∙ token-is (h .0)
 
 shared-slice-read-t : tie.Need-shared-slice-read-t
-shared-slice-read-t c = laws.question-some _ _ _ _ _ _ _ _ _ _ (c .before .before .before .before .before .before .pre .0)
+shared-slice-read-t c = laws.question-some _ _ _ _ _ _ _ (c .before .before .before .before .before .before .pre .0)
 
 range-requires : tie.Need-range-requires
 range-requires c κs = search needs
@@ -35,10 +36,10 @@ returns : tie.Need-returns
 returns c = search needs
 
 returns-2 : tie.Need-returns-2
-returns-2 c = let p = c .before .before .before .before .before .before .before .pre in absurd (omega (arith, token-there _ _ _ _ _ _ _ _ _ _ (p .0) (p .1), c .match .keys2))
+returns-2 c = let p = c .before .before .before .before .before .before .before .pre in absurd (omega (arith, token-there _ _ _ _ _ _ _ (p .0) (p .1), c .match .keys2))
 
 returns-3 : tie.Need-returns-3
-returns-3 c = let p = c .before .before .before .before .before .before .before .pre in absurd (c .match .rest .0 .1 (token-there _ _ _ _ _ _ _ _ _ _ (p .0) (p .1)))
+returns-3 c = let p = c .before .before .before .before .before .before .before .pre in absurd (c .match .rest .0 .1 (token-there _ _ _ _ _ _ _ (p .0) (p .1)))
 
 pub leaf-spec : {M : Type 1} → statement M
 leaf-spec =

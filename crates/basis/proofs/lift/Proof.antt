@@ -21,13 +21,13 @@ returns : tie.Need-returns
 returns c =
     let a = c .before .before .before .before .before .before .before .before .before .before .before .before .args in
     let p = c .passed .ensures in
-    (p .1, p .2, laws.lifted-wide (a .n) (a .e) (a .p .count) _ (a .starts .now) (a .ws .now) _ (a .bs .now) _ (a .wide) (c .before .before .before .before .before .before .before .before .if1 .taken) (p .0) (c .before .before .before .before .before .lower .ensures))
+    (p .1, p .2, laws.lifted-wide (a .x) (a .p .count) _ (a .starts .now) (a .ws .now) _ (a .bs .now) _ (a .wide) (c .before .before .before .before .before .before .before .before .if1 .taken) (p .0) (c .before .before .before .before .before .lower .ensures))
 
 bar-requires : tie.Need-bar-requires
 bar-requires c κs = search needs
 
-add-t20 : tie.Need-add-t20
-add-t20 c = search needs
+add-t19 : tie.Need-add-t19
+add-t19 c = search needs
 
 same-length-3 : tie.Need-same-length-3
 same-length-3 c = search needs
@@ -38,7 +38,7 @@ same-length-4 c = search needs
 returns-2 : tie.Need-returns-2
 returns-2 c =
     let a = c .before .before .before .before .before .before .before .before .before .before .before .before .args in
-    (refl, refl, laws.lifted-barred (a .n) (a .e) (a .p .count) _ (a .starts .now) (a .ws .now) _ (a .bs .now) _ (a .wide) (c .before .before .before .before .before .before .before .before .if1 .left) (c .before .before .before .before .before .bar .ensures))
+    (refl, refl, laws.lifted-barred (a .x) (a .p .count) _ (a .starts .now) (a .ws .now) _ (a .bs .now) _ (a .wide) (c .before .before .before .before .before .before .before .before .if1 .left) (c .before .before .before .before .before .bar .ensures))
 
 pub lift-spec : {M : Type 1} → statement M
 lift-spec =
@@ -50,7 +50,7 @@ lift-spec =
     same-length-2
     returns
     bar-requires
-    add-t20
+    add-t19
     same-length-3
     same-length-4
     returns-2)
