@@ -8,6 +8,7 @@ use native.Mathlib.Nat.{suc-mul}
 use lib.ListN.{length, getD, length-append}
 use lib.Seq.{take-at, drop-at}
 use borrow.Author.Tests.{ne-eqb}
+use Rattle.model.specs.Limits.{limits}
 use Rattle.model.specs.Cut.{Cut}
 use Rattle.model.specs.Computation.{Event, noEvent}
 use Rattle.structure.specs.Layout.{decoded, rowsAt, stationsAt}
@@ -16,7 +17,7 @@ use Rattle.layout.proofs.Turns.{spread}
 -- A clock of n entries of which the first is no 255.
 pub record Row (n : ℕ) (v : Cut) : Type 0 where
   pub long : length v ≡ n
-  pub there : getD v 0 0 ≤ 127
+  pub there : getD v 0 0 ≤ limits .events
 
 abbrev pub Rows : ℕ → List Event → Type 0
 Rows n l = (k : ℕ) → k < length l → Row n ((getD l k noEvent) .clock)

@@ -1,12 +1,12 @@
 -- A list that is written from its front: what stands before a place after one more cell, one more row, one more station. Assumes nothing.
 use mathlib.Core.Path.{_≡_, sym, ap, _∙_}
 use mathlib.Core.List.{List, [], _∷_, _++_, append-assoc, append-nil}
-use Prim.Native.Nat.{ℕ, suc, _+_, _*_, _<_}
+use Prim.Native.Nat.{ℕ, suc, _+_, _*_, _≤_, _<_}
 use native.Mathlib.Omega.{arith}
 use native.Mathlib.Numerals.{add-one}
 use native.Mathlib.Nat.{add-zero, add-mul}
 use lib.ListN.{length, take, drop, getD, set, length-drop}
-use lib.Seq.{take-suc, take-suc-set, getD-drop}
+use lib.Seq.{paste, take-paste, take-suc-set}
 use Rattle.model.specs.Frames.{word}
 use Rattle.model.specs.Lists.{sum, total}
 use Rattle.frame.specs.Table.{slot}
@@ -20,18 +20,16 @@ none-yet d at = rw (add-zero at, append-nil (take at d))
 pub part-more : (d d′ x y : List ℕ) (a b : ℕ) → take a d ≡ x → take b d′ ≡ take a d ++ y → take b d′ ≡ x ++ y
 part-more d d′ x y a b p q = rw p at q
 
+-- n cells of t copied
+pub copied : (d d′ t : List ℕ) (at from n : ℕ) → at + n ≤ length d → from + n ≤ length t → d′ ≡ paste d at (drop from t) n
+    → take (at + n) d′ ≡ take at d ++ take n (drop from t)
+copied d d′ t at from n h l e = ap (take (at + n)) e ∙ take-paste d at (drop from t) n (omega arith) (simp length-drop (omega arith))
+
 module _ (d₀ d : List ℕ) (at : ℕ) where
   pub cell-more : (s : List ℕ) (i v : ℕ) → at + i < length d → take (at + i) d ≡ take at d₀ ++ s → take (at + (i + 1)) (set d (at + i) v) ≡ take at d₀ ++ (s ++ v ∷ [])
   cell-more s i v h p =
       let e : at + (i + 1) ≡ suc (at + i) = omega arith in
       rw (e, take-suc-set d (at + i) v h, p) (append-assoc (take at d₀) s (v ∷ []))
-
-  pub copy-more : (t : List ℕ) (from i : ℕ) → at + i < length d → from + i < length t → take (at + i) d ≡ take at d₀ ++ take i (drop from t)
-      → take (at + (i + 1)) (set d (at + i) (getD t (from + i) 0)) ≡ take at d₀ ++ take (i + 1) (drop from t)
-  copy-more t from i h l p =
-      let b : i < length (drop from t) = simp length-drop (omega arith) in
-      let e : take (i + 1) (drop from t) ≡ take i (drop from t) ++ getD t (from + i) 0 ∷ [] = rw (add-one i, take-suc (drop from t) i 0 b, getD-drop from t i 0) in
-      rw e (cell-more (take i (drop from t)) i (getD t (from + i) 0) h p)
 
   pub value-more : (t : List ℕ) (j k a v : ℕ) → a ≡ slot j k → v ≡ word (drop a t) → at + k < length d → take (at + k) d ≡ take at d₀ ++ valuesOf t j k
       → take (at + (k + 1)) (set d (at + k) v) ≡ take at d₀ ++ valuesOf t j (k + 1)

@@ -1,4 +1,4 @@
--- What is laid out is what the basis wants: offsets, starts and values of the computation that the table holds. Assumes nothing.
+-- What is laid out is what the basis wants: offsets, starts and values of the computation that the store holds. Assumes nothing.
 use mathlib.Core.Path.{_≡_, refl, sym, ap, _∙_}
 use mathlib.Core.List.{List, [], _∷_, _++_, map, append-assoc}
 use mathlib.Core.Option.{some}
@@ -12,30 +12,34 @@ use Rattle.model.specs.Lists.{sum, total}
 use Rattle.model.specs.Cut.{empty}
 use Rattle.model.specs.Computation.{Computation, Event, noEvent, stations, history, count, full, clock, value}
 use Rattle.structure.specs.Layout.{stationsAt}
-use Rattle.structure.specs.Laid.{Laid}
+use Rattle.structure.specs.declared.Shape.{Shape}
+use Rattle.structure.specs.Shaped.{Shaped}
+use Rattle.structure.specs.Laid.{Laid, Facts}
+use Rattle.model.specs.Limits.{limits, startsSize, factsSize, storeSize}
 use Rattle.frame.specs.Table.{slot}
-use Rattle.layout.specs.Offsets.{Offsets}
 use Rattle.layout.specs.Rows.{inTurn, clockIn, clocksIn, startsIn, valuesOf, valuesIn}
 use Rattle.layout.specs.Loaded.{Loaded}
 use Rattle.layout.proofs.Totals.{sum-next, sum-few, rows-fit}
 use Rattle.layout.proofs.Turns.{spread, turns, turn-at, turn-total}
 use Rattle.layout.proofs.Cells.{Rows, clocks, stations-are}
 
+-- The numbers in order.
+pub shaped-of : (n e : ℕ) (counts offs : List ℕ) → 0 < n → n ≤ limits .stations → total (take n counts) ≤ limits .events → total (take n counts) ≡ e
+    → ((j : ℕ) → j < n → getD offs j 0 ≡ total (take j (take n counts))) → Shaped (record { n = n; e = e; counts = counts; offs = offs })
+shaped-of n e counts offs z small few t-is o = record { some-station = z; few-stations = small; few-events = omega arith; events-are = t-is; offs-are = o }
+
 -- the counts of a loaded log
-module _ {K : Computation} {n e : ℕ} {counts t : List ℕ} (g : Loaded K n e counts t) (fit : n ≤ length counts) where
+module _ {K : Computation} {n : ℕ} {counts t : List ℕ} (g : Loaded K n counts t) (fit : n ≤ length counts) where
   pub counts-full : take n counts ≡ full K
   counts-full =
       let x : length (take n counts) ≡ n = length-take-le n counts fit in
-      let y : length (full K) ≡ n = length-map (K .events) length ∙ g .sizes ∙ g .stored .size in
+      let y : length (full K) ≡ n = length-map (K .events) length ∙ g .valid .sizes ∙ g .stored .size in
       ext-getD 0 (take n counts) (full K) (x ∙ sym y) (λ i h.
       getD-take n counts i 0 (omega arith) ∙ g .stored .each i ∙ sym (List·getD-map length (K .events) i []))
 
-  pub counts-total : total (take n counts) ≡ e
-  counts-total = ap total counts-full ∙ g .events
-
-  -- the clocks and the values of the table
-  module _ (few : total (take n counts) ≤ 127) (small : n ≤ 8) (table : length t ≡ 10240) where
-    count-few : (j : ℕ) → j < n → count K j ≤ 127
+  -- the clocks and the values of the store
+  module _ (few : total (take n counts) ≤ limits .events) (small : n ≤ limits .stations) (long : length t ≡ storeSize) where
+    count-few : (j : ℕ) → j < n → count K j ≤ limits .events
     count-few j h = omega (arith, sum-few counts n j h, g .stored .each j)
 
     clock-at : (j k : ℕ) → j < n → k ≤ count K j → clockIn t n j k ≡ clock K j k
@@ -52,7 +56,7 @@ module _ {K : Computation} {n e : ℕ} {counts t : List ℕ} (g : Loaded K n e c
 
     good-rows : (j : ℕ) → j < n → 0 < n → Rows n (history K j)
     unfolding clock
-    good-rows j h z k b = record { long = clock-long j (suc k) h (omega arith); there = omega (arith, g .within j k 0 b, count-few 0 z) }
+    good-rows j h z k b = record { long = clock-long j (suc k) h (omega arith); there = omega (arith, g .valid .clocks j k b .within 0, count-few 0 z) }
 
     station-clocks : (j : ℕ) → j < n → clocksIn t n j (getD counts j 0) ≡ clocks (history K j)
     unfolding clocksIn clock
@@ -63,7 +67,7 @@ module _ {K : Computation} {n e : ℕ} {counts t : List ℕ} (g : Loaded K n e c
     all-clocks : 0 < n → startsIn t n counts n ≡ empty n ++ spread clocks (K .events)
     unfolding startsIn clock
     all-clocks z =
-        let m : length (K .events) ≡ n = g .sizes ∙ g .stored .size in
+        let m : length (K .events) ≡ n = g .valid .sizes ∙ g .stored .size in
         let first : clockIn t n 0 0 ≡ empty n = clock-at 0 0 z (omega arith) ∙ ap empty (g .stored .size) in
         let rest : inTurn (λ i. clocksIn t n i (getD counts i 0)) n ≡ spread clocks (take n (K .events)) = turns clocks (λ i. clocksIn t n i (getD counts i 0)) (K .events) [] (λ j b. station-clocks j (omega arith)) n (omega arith) in
         rw (first, rest, take-all n (K .events) (omega arith))
@@ -86,7 +90,7 @@ module _ {K : Computation} {n e : ℕ} {counts t : List ℕ} (g : Loaded K n e c
 
       pub rows-laid : stationsAt n (full K) (drop n starts) ≡ map (map (λ (v : Event). some (v .clock))) (K .events)
       rows-laid =
-          let m : length (K .events) ≡ n = g .sizes ∙ g .stored .size in
+          let m : length (K .events) ≡ n = g .valid .sizes ∙ g .stored .size in
           let d : drop n starts ≡ spread clocks (K .events) ++ behind = ap (drop n) whole ∙ drop-at (empty n) (spread clocks (K .events) ++ behind) n empty-long in
           rw d (stations-are n (K .events) behind (λ j b. good-rows j (omega arith) z))
 
@@ -118,20 +122,27 @@ module _ {K : Computation} {n e : ℕ} {counts t : List ℕ} (g : Loaded K n e c
         ∙ turn-at (λ x. valuesOf t x (suc (getD counts x 0))) j n k h (omega (arith, values-long j (suc (getD counts j 0))))
         ∙ station-value j k (suc (getD counts j 0)) q ∙ value-at j k h b
 
-    pub laid : (offs starts values : List ℕ) → 0 < n → 1024 ≤ length starts → 135 ≤ length values → Offsets n counts offs
-        → take ((total (take n counts) + 1) * n) starts ≡ startsIn t n counts n → take (total (take n counts) + n) values ≡ valuesIn t counts n → Laid K n e counts offs starts values
-    laid offs starts values z a b o p q =
-        record {
-          stationed = g .stored .size;
-          some-station = z;
-          few-stations = small;
-          counted = g .events;
-          few-events = omega (arith, counts-total);
-          counts-are = counts-full;
-          offs-are = λ j h. o .are j h ∙ ap (λ (c : List ℕ). total (take j c)) counts-full;
-          starts-fit = rw (← counts-full, ← add-one (total (take n counts))) (omega (arith, rows-fit (total (take n counts)) n few small));
-          starts-least = least-laid starts z p;
-          starts-rows = rows-laid starts z p;
-          values-fit = omega (arith, counts-total);
-          values-are = λ j k h l. rw (← counts-full) (values-laid values q j k h l);
-        }
+    -- The shape with e events and the offsets offs.
+    module _ (e : ℕ) (offs : List ℕ) (z : 0 < n) (t-is : total (take n counts) ≡ e) (o : (j : ℕ) → j < n → getD offs j 0 ≡ total (take j (take n counts))) where
+      abbrev x : Shape
+      x = record { n = n; e = e; counts = counts; offs = offs }
+
+      pub laid : (starts : List ℕ) → startsSize ≤ length starts → take ((e + 1) * n) starts ≡ startsIn t n counts n → Laid K x starts
+      laid starts a p =
+          let q : take ((total (take n counts) + 1) * n) starts ≡ startsIn t n counts n = rw t-is p in
+          record {
+            valid = g .valid;
+            shaped = shaped-of n e counts offs z small few t-is o;
+            stationed = g .stored .size;
+            counted = ap total (sym counts-full) ∙ t-is;
+            counts-are = counts-full;
+            starts-fit = omega (arith, rows-fit e n (omega arith) small);
+            starts-least = least-laid starts z q;
+            starts-rows = rows-laid starts z q;
+          }
+
+      pub faced : (values : List ℕ) → factsSize ≤ length values → take (e + n) values ≡ valuesIn t counts n → Facts K x values
+      faced values b p = record {
+        values-fit = omega arith;
+        values-are = λ j k h l. rw (← counts-full) (values-laid values (rw t-is p) j k h l);
+      }

@@ -1,4 +1,4 @@
--- The invariant: every station before j passes, whatever computation the table holds. Assumes nothing.
+-- The invariant: every station before j passes, whatever computation the store holds. Assumes nothing.
 use borrow.Author.Needs.{needs}
 use mathlib.Core.Path.{_≡_, refl}
 use mathlib.Core.Bool.{true}
@@ -14,10 +14,10 @@ use Rattle.layout.proofs.consistent.consistent.Statement.{statement}
 use Rattle.layout.proofs.consistent.consistent.Tie as tie
 
 abbrev Inv-loop : tie.InvT-loop
-Inv-loop cut table n counts j₀ j = (j ≤ n) × ((K : Computation) → Stored K n counts table → every j (λ i. known K cut i (getD cut i 0)) ≡ true)
+Inv-loop cut store n counts j₀ j = (j ≤ n) × ((K : Computation) → Stored K n counts store → every j (λ i. known K cut i (getD cut i 0)) ≡ true)
 
 abbrev μ-loop : tie.MeasureT-loop
-μ-loop cut table n counts j₀ j = n - j
+μ-loop cut store n counts j₀ j = n - j
 
 returns : tie.Need-returns Inv-loop μ-loop
 returns c = λ K g. wrong-size _ g (c .if1 .taken)

@@ -10,10 +10,10 @@ use Rattle.layout.proofs.offsets.offsets.Statement.{statement}
 use Rattle.layout.proofs.offsets.offsets.Tie as tie
 
 abbrev Inv-loop : tie.InvT-loop
-Inv-loop counts n offs₀ sum₀ j₀ offs sum j = (j ≤ n) × (length offs ≡ 8) × (sum ≡ total (take j (take n counts))) × ((i : ℕ) → i < j → getD offs i 0 ≡ total (take i (take n counts)))
+Inv-loop n counts offs₀ sum₀ j₀ offs sum j = (j ≤ n) × (length offs ≡ 8) × (sum ≡ total (take j (take n counts))) × ((i : ℕ) → i < j → getD offs i 0 ≡ total (take i (take n counts)))
 
 abbrev μ-loop : tie.MeasureT-loop
-μ-loop counts n offs₀ sum₀ j₀ offs sum j = n - j
+μ-loop n counts offs₀ sum₀ j₀ offs sum j = n - j
 
 loop-holds : tie.Need-loop-holds Inv-loop μ-loop
 unfolding sum
@@ -22,15 +22,15 @@ loop-holds c = (omega arith, refl, refl, λ i h. absurd (omega arith))
 array-write-offs : tie.Need-array-write-offs Inv-loop μ-loop
 array-write-offs c = search needs
 
-element-copy-out-sum : tie.Need-element-copy-out-sum Inv-loop μ-loop
-element-copy-out-sum c = search needs
+array-read-sum : tie.Need-array-read-sum Inv-loop μ-loop
+array-read-sum c = search needs
 
 add-sum : tie.Need-add-sum Inv-loop μ-loop
 add-sum c =
-    let a = c .before .before .before .args in
-    let p = c .before .before .before .pre in
-    let v = c .before .before .loop .inv in
-    omega (arith, sum-few (a .counts .now) (a .n) (c .before .before .loop .j) (c .before .loop-test .taken))
+    let a = c .before .before .args in
+    let p = c .before .before .pre in
+    let v = c .before .loop .inv in
+    omega (arith, sum-few (a .t1) (a .n) (c .before .loop .j) (c .loop-test .taken))
 
 add-j : tie.Need-add-j Inv-loop μ-loop
 add-j c = search needs
@@ -40,19 +40,19 @@ loop-less c = search needs
 
 loop-again : tie.Need-loop-again Inv-loop μ-loop
 loop-again c =
-    let a = c .before .before .before .args in
-    let l = c .before .before .loop in
+    let a = c .before .before .args in
+    let l = c .before .loop in
     let b : l .j < length (l .offs) = omega arith in (
       omega arith,
       simp length-set (l .inv .1),
-      ap (λ (x : ℕ). x + getD (a .counts .now) (l .j) 0) (l .inv .2) ∙ sym (sum-next (a .counts .now) (a .n) (l .j) (c .before .loop-test .taken)),
-      sum-set (a .counts .now) (l .offs) (a .n) (l .j) (l .sum) b (l .inv .2) (l .inv .3),
+      ap (λ (x : ℕ). x + getD (a .t1) (l .j) 0) (l .inv .2) ∙ sym (sum-next (a .t1) (a .n) (l .j) (c .loop-test .taken)),
+      sum-set (a .t1) (l .offs) (a .n) (l .j) (l .sum) b (l .inv .2) (l .inv .3),
     )
 
 returns : tie.Need-returns Inv-loop μ-loop
 returns c =
     let l = c .before .loop in
-    record { few = c .before .before .pre .1; are = λ j h. l .inv .3 j (omega arith) }
+    λ j h. l .inv .3 j (omega arith)
 
 pub offsets-spec : {M : Type 1} → statement M
 offsets-spec =
@@ -62,7 +62,7 @@ offsets-spec =
     μ-loop
     loop-holds
     array-write-offs
-    element-copy-out-sum
+    array-read-sum
     add-sum
     add-j
     loop-less

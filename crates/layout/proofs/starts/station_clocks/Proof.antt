@@ -8,15 +8,15 @@ use native.Mathlib.Nat.{zero-mul}
 use lib.ListN.{length, take}
 use Rattle.layout.specs.Rows.{inTurn, clocksIn}
 use Rattle.structure.proofs.Places.{next-fits}
-use Rattle.layout.proofs.Grown.{none-yet, clock-more}
+use Rattle.layout.proofs.Grown.{none-yet, copied, clock-more}
 use Rattle.layout.proofs.starts.station_clocks.Statement.{statement}
 use Rattle.layout.proofs.starts.station_clocks.Tie as tie
 
 abbrev Inv-loop : tie.InvT-loop
-Inv-loop table n j m starts₀ at k₀ starts k = (k ≤ m) × (length starts ≡ length starts₀) × (take (at + k * n) starts ≡ take at starts₀ ++ clocksIn table n j k)
+Inv-loop store n j m starts₀ at k₀ starts k = (k ≤ m) × (length starts ≡ length starts₀) × (take (at + k * n) starts ≡ take at starts₀ ++ clocksIn store n j k)
 
 abbrev μ-loop : tie.MeasureT-loop
-μ-loop table n j m starts₀ at k₀ starts k = m - k
+μ-loop store n j m starts₀ at k₀ starts k = m - k
 
 loop-holds : tie.Need-loop-holds Inv-loop μ-loop
 unfolding clocksIn inTurn
@@ -30,22 +30,22 @@ add-slot c = search needs
 slot-requires : tie.Need-slot-requires Inv-loop μ-loop
 slot-requires c κs = search needs
 
-add-copy : tie.Need-add-copy Inv-loop μ-loop
-add-copy c = search needs
-
 fits-here : (c : tie.After-copy-arg Inv-loop μ-loop) → c .before .before .before .before .before .before .args .at + c .before .before .before .loop .k * c .before .before .before .before .before .before .args .n + c .before .before .before .before .before .before .args .n ≤ length (c .before .before .before .loop .starts)
 fits-here c = omega (arith, next-fits (c .before .before .before .loop .k) (c .before .before .before .before .before .before .args .m) (c .before .before .before .before .before .before .args .n) (c .before .before .loop-test .taken), c .before .before .before .loop .inv, c .before .before .before .before .before .before .pre)
 
 mul-copy : tie.Need-mul-copy Inv-loop μ-loop
 mul-copy c = omega (arith, fits-here c)
 
+add-copy : tie.Need-add-copy Inv-loop μ-loop
+add-copy c = omega (arith, fits-here c)
+
 add-copy-2 : tie.Need-add-copy-2 Inv-loop μ-loop
-add-copy-2 c = omega (arith, fits-here c)
+add-copy-2 c = search needs
 
 copy-requires : tie.Need-copy-requires Inv-loop μ-loop
 copy-requires c κs =
     let p = c .before .before .before .before .before .before .pre in
-    (omega arith, fits-here c)
+    (fits-here c, omega arith)
 
 add-k : tie.Need-add-k Inv-loop μ-loop
 add-k c = search needs
@@ -57,8 +57,9 @@ loop-again : tie.Need-loop-again Inv-loop μ-loop
 loop-again c =
     let a = c .before .before .before .before .before .before .before .before .before .args in
     let l = c .before .before .before .before .before .before .loop in
-    let d = c .before .before .copy .last .1 .1 .1 .0 in
-    (omega arith, c .before .before .copy .kept .1 .1 .1 .0 ∙ l .inv .1, clock-more (a .starts .now) (l .starts) (a .at) (a .table .now) d (a .n) (a .j) (l .k) (c .before .before .before .before .slot .result) (c .before .before .before .before .slot .ensures .0) (l .inv .2) (c .before .before .copy .ensures))
+    let d = c .before .before .copy .last .0 in
+    let f = fits-here (c .before .before .before) in
+    (omega arith, c .before .before .copy .kept .0 ∙ l .inv .1, clock-more (a .starts .now) (l .starts) (a .at) (a .store .now) d (a .n) (a .j) (l .k) (c .before .before .before .before .slot .result) (c .before .before .before .before .slot .ensures .0) (l .inv .2) (copied (l .starts) d (a .store .now) (a .at + l .k * a .n) (c .before .before .before .before .slot .result + 2) (a .n) f (omega arith) (c .before .before .copy .ensures)))
 
 same-length : tie.Need-same-length Inv-loop μ-loop
 same-length c = search needs
@@ -77,8 +78,8 @@ station-clocks-spec =
     loop-holds
     add-slot
     slot-requires
-    add-copy
     mul-copy
+    add-copy
     add-copy-2
     copy-requires
     add-k

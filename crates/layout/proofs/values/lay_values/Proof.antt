@@ -1,6 +1,6 @@
 -- The invariant: the values of the stations before j stand at the front. Assumes nothing.
 use borrow.Author.Needs.{needs}
-use mathlib.Core.Path.{_≡_, refl, _∙_}
+use mathlib.Core.Path.{_≡_, refl, ap, _∙_}
 use Prim.Native.Nat.{_+_, _≤_, _-_}
 use native.Mathlib.Omega.{arith}
 use lib.ListN.{length, take}
@@ -13,23 +13,23 @@ use Rattle.layout.proofs.values.lay_values.Statement.{statement}
 use Rattle.layout.proofs.values.lay_values.Tie as tie
 
 abbrev Inv-loop : tie.InvT-loop
-Inv-loop table n counts offs values₀ j₀ values j = (j ≤ n) × (length values ≡ length values₀) × (take (total (take j (take n counts)) + j) values ≡ valuesIn table counts j)
+Inv-loop store values₀ n counts offs j₀ values j = (j ≤ n) × (length values ≡ length values₀) × (take (total (take j (take n counts)) + j) values ≡ valuesIn store counts j)
 
 abbrev μ-loop : tie.MeasureT-loop
-μ-loop table n counts offs values₀ j₀ values j = n - j
+μ-loop store values₀ n counts offs j₀ values j = n - j
 
 loop-holds : tie.Need-loop-holds Inv-loop μ-loop
 unfolding sum valuesIn inTurn
 loop-holds c = (omega arith, refl, refl)
 
-element-copy-out-wide : tie.Need-element-copy-out-wide Inv-loop μ-loop
-element-copy-out-wide c = search needs
+array-read-wide : tie.Need-array-read-wide Inv-loop μ-loop
+array-read-wide c = search needs
 
 wide-requires : tie.Need-wide-requires Inv-loop μ-loop
 wide-requires c κs = search needs
 
-element-copy-out-wide-2 : tie.Need-element-copy-out-wide-2 Inv-loop μ-loop
-element-copy-out-wide-2 c = search needs
+array-read-wide-2 : tie.Need-array-read-wide-2 Inv-loop μ-loop
+array-read-wide-2 c = search needs
 
 wide-requires-2 : tie.Need-wide-requires-2 Inv-loop μ-loop
 wide-requires-2 c κs = search needs
@@ -44,14 +44,16 @@ station-values-requires : tie.Need-station-values-requires Inv-loop μ-loop
 station-values-requires c κs =
     let a = c .before .before .before .before .before .before .before .before .before .args in
     let p = c .before .before .before .before .before .before .before .before .before .pre in
-    let l = c .before .before .before .before .before .before .loop in
-    let h = c .before .before .before .before .before .loop-test .taken in
-    let s = sum-few (a .counts .now) (a .n) (l .j) h in
-    let o = p .3 .are (l .j) h in
-    let m = c .before .before .before .wide .ensures .0 in
+    let l = c .before .before .before .before .loop in
+    let h = c .before .before .before .loop-test .taken in
+    let s = sum-few (a .x .counts) (a .x .n) (l .j) h in
+    let o = p .0 .offs-are (l .j) h in
+    let m = c .before .before .wide .ensures .0 in
     let b = c .before .wide2 .ensures .0 in
-    let f = p .3 .few in
-    (omega arith, omega arith, p .1, omega arith)
+    let f = p .0 .few-events in
+    let t = p .0 .events-are in
+    let g = p .0 .few-stations in
+    (omega arith, omega arith, p .1 .0, omega arith)
 
 add-j : tie.Need-add-j Inv-loop μ-loop
 add-j c = search needs
@@ -62,13 +64,13 @@ loop-less c = search needs
 loop-again : tie.Need-loop-again Inv-loop μ-loop
 loop-again c =
     let a = c .before .before .before .before .before .before .before .before .before .before .before .before .args in
-    let l = c .before .before .before .before .before .before .before .before .before .loop in
-    let h = c .before .before .before .before .before .before .before .before .loop-test .taken in
-    let o = c .before .before .before .before .before .before .before .before .before .before .before .before .pre .3 .are (l .j) h in
+    let l = c .before .before .before .before .before .before .before .loop in
+    let h = c .before .before .before .before .before .before .loop-test .taken in
+    let o = c .before .before .before .before .before .before .before .before .before .before .before .before .pre .0 .offs-are (l .j) h in
     let d = c .before .before .station-values .last .1 .1 .1 .0 in (
       omega arith,
       c .before .before .station-values .kept .1 .1 .1 .0 ∙ l .inv .1,
-      values-more (a .table .now) (a .counts .now) (l .values) d (a .n) (l .j) (c .before .before .before .before .before .before .wide .result) (c .before .before .before .before .wide2 .result) h (c .before .before .before .before .before .before .wide .ensures .0) (c .before .before .before .before .wide2 .ensures .0 ∙ o) (l .inv .2) (c .before .before .station-values .ensures),
+      values-more (a .store .now) (a .x .counts) (l .values) d (a .x .n) (l .j) (c .before .before .before .before .before .wide .result) (c .before .before .before .before .wide2 .result) h (c .before .before .before .before .before .wide .ensures .0) (c .before .before .before .before .wide2 .ensures .0 ∙ o) (l .inv .2) (c .before .before .station-values .ensures),
     )
 
 same-length : tie.Need-same-length Inv-loop μ-loop
@@ -76,9 +78,10 @@ same-length c = search needs
 
 returns : tie.Need-returns Inv-loop μ-loop
 returns c =
-    let a = c .before .before .before .before .args in
-    let e : c .before .loop .j ≡ a .n = omega arith in
-    rw (take-take (a .n) (a .n) (a .counts .now) (omega arith)) at (rw e at (c .before .loop .inv .2))
+    let a = c .before .before .before .before .before .before .args in
+    let e : c .before .loop .j ≡ a .x .n = omega arith in
+    let t : total (take (a .x .n) (take (a .x .n) (a .x .counts))) ≡ a .x .e = ap total (take-take (a .x .n) (a .x .n) (a .x .counts) (omega arith)) ∙ c .before .before .before .before .before .before .pre .0 .events-are in
+    rw t at (rw e at (c .before .loop .inv .2))
 
 pub lay-values-spec : {M : Type 1} → statement M
 lay-values-spec =
@@ -87,9 +90,9 @@ lay-values-spec =
     Inv-loop
     μ-loop
     loop-holds
-    element-copy-out-wide
+    array-read-wide
     wide-requires
-    element-copy-out-wide-2
+    array-read-wide-2
     wide-requires-2
     add-station-values
     add-station-values-2

@@ -11,10 +11,10 @@ use Rattle.layout.proofs.values.station_values.Statement.{statement}
 use Rattle.layout.proofs.values.station_values.Tie as tie
 
 abbrev Inv-loop : tie.InvT-loop
-Inv-loop table j m values₀ at k₀ values k = (k ≤ m) × (length values ≡ length values₀) × (take (at + k) values ≡ take at values₀ ++ valuesOf table j k)
+Inv-loop store j m values₀ at k₀ values k = (k ≤ m) × (length values ≡ length values₀) × (take (at + k) values ≡ take at values₀ ++ valuesOf store j k)
 
 abbrev μ-loop : tie.MeasureT-loop
-μ-loop table j m values₀ at k₀ values k = m - k
+μ-loop store j m values₀ at k₀ values k = m - k
 
 loop-holds : tie.Need-loop-holds Inv-loop μ-loop
 unfolding valuesOf inTurn
@@ -23,8 +23,8 @@ loop-holds c = (omega arith, refl, none-yet (c .before .before .args .values .no
 slot-requires : tie.Need-slot-requires Inv-loop μ-loop
 slot-requires c κs = search needs
 
-number-requires : tie.Need-number-requires Inv-loop μ-loop
-number-requires c κs = search needs
+word-requires : tie.Need-word-requires Inv-loop μ-loop
+word-requires c κs = search needs
 
 add-values : tie.Need-add-values Inv-loop μ-loop
 add-values c = search needs
@@ -46,7 +46,7 @@ loop-again c =
     let a = c .before .before .before .before .before .before .args in
     let l = c .before .before .before .loop in
     let b : a .at + l .k < length (l .values) = omega arith in
-    (omega arith, simp length-set (l .inv .1), value-more (a .values .now) (l .values) (a .at) (a .table .now) (a .j) (l .k) (c .before .slot .result) (c .number .result) (c .before .slot .ensures .0) (c .number .ensures) b (l .inv .2))
+    (omega arith, simp length-set (l .inv .1), value-more (a .values .now) (l .values) (a .at) (a .store .now) (a .j) (l .k) (c .before .slot .result) (c .word .result) (c .before .slot .ensures .0) (c .word .ensures) b (l .inv .2))
 
 same-length : tie.Need-same-length Inv-loop μ-loop
 same-length c = search needs
@@ -64,7 +64,7 @@ station-values-spec =
     μ-loop
     loop-holds
     slot-requires
-    number-requires
+    word-requires
     add-values
     mul-values
     slice-write-values
