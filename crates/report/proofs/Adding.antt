@@ -11,7 +11,7 @@ use borrow.Author.Tests.{not-true, not-false}
 use Rattle.model.specs.Cut.{Cut, inside, insideAny}
 use Rattle.model.specs.Answer.{notInside, precedes, insert}
 use Rattle.structure.specs.Layout.{cutsAt}
-use Rattle.structure.proofs.Parts.{paste-behind}
+use Rattle.cells.proofs.Parts.{paste-behind}
 use Rattle.structure.proofs.Listed.{cuts-more}
 use Rattle.report.specs.Cuts.{added}
 use Rattle.report.proofs.Cuts.{cuts-all, cuts-from, cuts-none, cuts-put}

@@ -9,7 +9,7 @@ use lib.Seq.{take-add, drop-drop, length-take-le, paste, slice}
 use Rattle.model.specs.Cut.{Cut}
 use Rattle.model.specs.Answer.{inRow}
 use Rattle.structure.specs.Layout.{cutsAt}
-use Rattle.structure.proofs.Parts.{drop-take, paste-front, paste-part, paste-behind}
+use Rattle.cells.proofs.Parts.{drop-take, paste-front, paste-part, paste-behind}
 use Rattle.structure.proofs.Places.{next-fits}
 use Rattle.structure.proofs.Listed.{cuts-add, cuts-more, cuts-same}
 

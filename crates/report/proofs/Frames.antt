@@ -7,6 +7,7 @@ use mathlib.Core.Bool.{Bool}
 use mathlib.Core.List.{List, [], _∷_, _++_}
 use lib.ListN.{length, take, drop, set, length-set, length-take}
 use lib.Seq.{paste, take-paste, length-paste, sets-eq}
+use Rattle.model.specs.Limits.{frameSize, lineSize}
 use Rattle.model.specs.Bytes.{line}
 use Rattle.model.specs.Answer.{yesNo, fourBytes, answerLine}
 use Rattle.cells.specs.Put.{putOf}
@@ -59,7 +60,7 @@ answer-frame d cuts p x start y count m rounds h l e q o =
     ∙ ap (λ (t : ℕ). 0x40 ∷ t ∷ count ∷ (take m cuts ++ fourBytes rounds)) e
 
 -- Its line fits.
-pub frame-fits : (r m : ℕ) (f : List ℕ) → r ≤ 135 → 273 ≤ m → 0 + 2 * length (take r f) + 3 ≤ m
+pub frame-fits : (r m : ℕ) (f : List ℕ) → r ≤ frameSize → lineSize ≤ m → 0 + 2 * length (take r f) + 3 ≤ m
 frame-fits r m f h l = omega (arith, length-take r f)
 
 -- The line of that frame.

@@ -11,21 +11,16 @@ use Rattle.model.specs.Lists.{total}
 use Rattle.model.specs.Cut.{Cut, empty}
 use Rattle.model.specs.Structure.{Structure, greatest, belongs, belongsAny}
 use Rattle.model.specs.Answer.{tops, sort}
-use Rattle.structure.specs.Layout.{cutsAt, structureAt, cells, standing}
+use Rattle.structure.specs.Layout.{cutsAt, structureAt, standing}
 use Rattle.structure.proofs.Places.{cells-are}
 use Rattle.lattice.proofs.Sorting.{sort-tops}
 use Rattle.report.specs.Cuts.{added}
-use Rattle.report.proofs.Cuts.{within}
 
 next-place : (c i : ℕ) (l : List ℕ) → drop c (drop (i * c) l) ≡ drop ((i + 1) * c) l
 next-place c i l = let d : i * c + c ≡ (i + 1) * c = omega (arith, add-mul i 1 c) in drop-drop c (i * c) l ∙ ap (λ (m : ℕ). drop m l) d
 
 -- k structures of e events stand in ws.
 module _ (n e k : ℕ) (counts ws : List ℕ) (t : total counts ≡ e) where
-  -- The i-th structure is within.
-  pub cells-within : (i : ℕ) {m : ℕ} → i < k → k * ((e + 1) * n) ≤ m → i * ((e + 1) * n) + cells n counts ≤ m
-  cells-within i h l = rw (cells-are n e counts t) (within ((e + 1) * n) i k h l)
-
   -- From the i-th on.
   standing-from : (i : ℕ) (bs : List ℕ) → i < k
       → standing n counts (k - i) (drop (i * ((e + 1) * n)) ws) bs ≡ structureAt n counts (drop (i * ((e + 1) * n)) ws) bs ∷ standing n counts (k - (i + 1)) (drop ((i + 1) * ((e + 1) * n)) ws) (drop (16 * n) bs)

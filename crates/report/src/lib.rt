@@ -1,9 +1,12 @@
 // From a basis that stands in a workspace to the answer: whether a cut belongs, the listed cuts in order, the answer's line.
+use model::Log;
+use structure::Shape;
 ghost use mathlib.Core.Path.{_≡_};
 ghost use mathlib.Core.List.{List, _∷_, _++_, map};
 ghost use Prim.Native.Nat.{ℕ, _+_, _*_, _-_, _≤_, _<_};
 ghost use lib.ListN.{length, take, drop};
 ghost use lib.Seq.{slice};
+ghost use Rattle.model.specs.Limits.{limits, frameSize, lineSize};
 ghost use Rattle.model.specs.Lists.{total};
 ghost use Rattle.model.specs.Formula.{Formula};
 ghost use Rattle.model.specs.Cut.{empty, insideAny};
@@ -14,20 +17,19 @@ ghost use Rattle.model.specs.Basis.{basis};
 ghost use Rattle.model.specs.Rounds.{rounds as basisRounds};
 ghost use Rattle.model.specs.Answer.{notInside, tops, precedes, insert, sort, answer, yesNo, fourBytes, answerLine, refusalLine};
 ghost use Rattle.structure.specs.Layout.{cutsAt, standing};
-ghost use Rattle.structure.specs.Stations.{Stations};
 ghost use Rattle.cells.specs.Put.{putOf};
 ghost use Rattle.report.specs.Cuts.{added};
 ghost use Rattle.report.specs.Stands.{Stands};
 ghost use Rattle.report.specs.Written.{Written};
 
 // Is a cut contained in one of the cuts?
-pub fn in_one(cut: &[u8], cuts: &[u8], count: usize, n: usize) -> bool
+fn in_one(cut: &[u8], cuts: &[u8], count: usize, n: usize) -> bool
     requires { ⌜ (n ≤ length (now cut)) × (count * n ≤ length (now cuts)) ⌝ }
     ensures { λ r. ⌜ r ≡ insideAny (take n (now (cut .entry))) (cutsAt n count (now (cuts .entry))) ⌝ }
 {
     let mut i = 0;
     while i < count {
-        if structure::contained(cut, 0, cuts, i * n, n) {
+        if cells::contained(cut, 0, cuts, i * n, n) {
             return true;
         }
         i += 1;
@@ -36,15 +38,15 @@ pub fn in_one(cut: &[u8], cuts: &[u8], count: usize, n: usize) -> bool
 }
 
 // The cuts that are contained in a cut go, and the others close up.
-pub fn take_out(cut: &[u8], cuts: &mut [u8], count: usize, n: usize) -> usize
+fn take_out(cut: &[u8], cuts: &mut [u8], count: usize, n: usize) -> usize
     requires { ⌜ (n ≤ length (now cut)) × (count * n ≤ length (now cuts)) ⌝ }
     ensures { λ r. ⌜ (r ≤ count) × (cutsAt n r (now (cuts .exit)) ≡ notInside (take n (now (cut .entry))) (cutsAt n count (now (cuts .entry)))) ⌝ }
 {
     let mut left = 0;
     let mut i = 0;
     while i < count {
-        if !structure::contained(cuts, i * n, cut, 0, n) {
-            structure::shift(cuts, i * n, left * n, n);
+        if !cells::contained(cuts, i * n, cut, 0, n) {
+            cells::shift(cuts, i * n, left * n, n);
             left += 1;
         }
         i += 1;
@@ -53,7 +55,7 @@ pub fn take_out(cut: &[u8], cuts: &mut [u8], count: usize, n: usize) -> usize
 }
 
 // Does a cut stand before the cut at a place? Station 0 decides first.
-pub fn precedes(cut: &[u8], cuts: &[u8], at: usize, n: usize) -> bool
+fn precedes(cut: &[u8], cuts: &[u8], at: usize, n: usize) -> bool
     requires { ⌜ (n ≤ length (now cut)) × (at + n ≤ length (now cuts)) ⌝ }
     ensures { λ r. ⌜ r ≡ precedes (take n (now (cut .entry))) (take n (drop at (now (cuts .entry)))) ⌝ }
 {
@@ -71,7 +73,7 @@ pub fn precedes(cut: &[u8], cuts: &[u8], at: usize, n: usize) -> bool
 }
 
 // The number of cuts that a cut stands behind.
-pub fn place(cut: &[u8], cuts: &[u8], count: usize, n: usize) -> usize
+fn place(cut: &[u8], cuts: &[u8], count: usize, n: usize) -> usize
     requires { ⌜ (n ≤ length (now cut)) × (count * n ≤ length (now cuts)) ⌝ }
     ensures { λ r. ⌜ (r ≤ count) × (insert (take n (now (cut .entry))) (cutsAt n count (now (cuts .entry))) ≡ cutsAt n r (now (cuts .entry)) ++ (take n (now (cut .entry)) ∷ cutsAt n (count - r) (drop (r * n) (now (cuts .entry))))) ⌝ }
 {
@@ -86,7 +88,7 @@ pub fn place(cut: &[u8], cuts: &[u8], count: usize, n: usize) -> usize
 }
 
 // The cells from a place up to an end, moved up by n, the last first.
-pub fn shift_up(cells: &mut [u8], from: usize, end: usize, n: usize)
+fn shift_up(cells: &mut [u8], from: usize, end: usize, n: usize)
     requires { ⌜ (from ≤ end) × (end + n ≤ length (now cells)) ⌝ }
     ensures { λ _. ⌜ (take from (now (cells .exit)) ≡ take from (now (cells .entry))) × (slice (from + n) (end + n) (now (cells .exit)) ≡ slice from end (now (cells .entry))) ⌝ }
 {
@@ -98,16 +100,16 @@ pub fn shift_up(cells: &mut [u8], from: usize, end: usize, n: usize)
 }
 
 // One more cut, at the place of one of them or behind the last.
-pub fn insert_at(cuts: &mut [u8], cut: &[u8], place: usize, count: usize, n: usize)
+fn insert_at(cuts: &mut [u8], cut: &[u8], place: usize, count: usize, n: usize)
     requires { ⌜ (n ≤ length (now cut)) × (place ≤ count) × ((count + 1) * n ≤ length (now cuts)) ⌝ }
     ensures { λ _. ⌜ cutsAt n (count + 1) (now (cuts .exit)) ≡ cutsAt n place (now (cuts .entry)) ++ (take n (now (cut .entry)) ∷ cutsAt n (count - place) (drop (place * n) (now (cuts .entry)))) ⌝ }
 {
     shift_up(cuts, place * n, count * n, n);
-    structure::copy(cuts, place * n, cut, 0, n);
+    cells::copy(cuts, place * n, cut, 0, n);
 }
 
 // One more cut among cuts none of which contains another: no change if one contains it, else those that it contains go.
-pub fn add_cut(cuts: &mut [u8], count: usize, n: usize, cut: &[u8]) -> usize
+fn add_cut(cuts: &mut [u8], count: usize, n: usize, cut: &[u8]) -> usize
     requires { ⌜ (0 < n) × (n ≤ length (now cut)) × ((count + 1) * n ≤ length (now cuts)) ⌝ }
     ensures { λ r. ⌜ (r ≤ count + 1) × (cutsAt n r (now (cuts .exit)) ≡ added (take n (now (cut .entry))) (cutsAt n count (now (cuts .entry)))) ⌝ }
 {
@@ -121,8 +123,8 @@ pub fn add_cut(cuts: &mut [u8], count: usize, n: usize, cut: &[u8]) -> usize
 }
 
 // The greatest cuts of the structures, the last first: those contained in no other, in order.
-pub fn list_cuts(ws: &[u8], count: usize, n: usize, e: usize, cuts: &mut [u8]) -> usize
-    requires { ⌜ (0 < n) × (n ≤ 8) × (count * ((e + 1) * n) ≤ length (now ws)) × (count * n ≤ length (now cuts)) ⌝ }
+fn list_cuts(ws: &[u8], count: usize, n: usize, e: usize, cuts: &mut [u8]) -> usize
+    requires { ⌜ (0 < n) × (n ≤ limits .stations) × (count * ((e + 1) * n) ≤ length (now ws)) × (count * n ≤ length (now cuts)) ⌝ }
     ensures { λ r. ⌜ (r ≤ count) × ((counts bs : List ℕ) → total counts ≡ e → cutsAt n r (now (cuts .exit)) ≡ sort (tops (map greatest (standing n counts count (now (ws .entry)) bs)))) ⌝ }
 {
     let mut cut = [0u8; 8];
@@ -138,26 +140,18 @@ pub fn list_cuts(ws: &[u8], count: usize, n: usize, e: usize, cuts: &mut [u8]) -
 }
 
 // Does a cut belong to one of the structures?
-pub fn belongs_any(
-    ws: &[u8],
-    bs: &[u8],
-    count: usize,
-    n: usize,
-    e: usize,
-    counts: &[u8; 8],
-    offs: &[u8; 8],
-    cut: &[u8; 8],
-) -> bool
-    requires { ⌜ Stations n (now counts) (now offs) ⌝ }
-    requires { ⌜ Stands n e (now counts) count (now ws) (now bs) ⌝ }
+pub fn belongs_any(ws: &[u8], bs: &[u8], count: usize, x: Shape, cut: &[u8; 8]) -> bool
+    requires { ⌜ Stands x count (now ws) (now bs) ⌝ }
     requires { ⌜ length (now cut) ≡ 8 ⌝ }
-    ensures { λ r. ⌜ r ≡ belongsAny (standing n (take n (now (counts .entry))) count (now (ws .entry)) (now (bs .entry))) (take n (now (cut .entry))) ⌝ }
+    ensures { λ r. ⌜ r ≡ belongsAny (standing (x .n) (take (x .n) (x .counts)) count (now (ws .entry)) (now (bs .entry))) (take (x .n) (now (cut .entry))) ⌝ }
 {
+    let n = x.n;
+    let e = x.e;
     let mut i = 0;
     while i < count {
         let at = i * ((e + 1) * n);
         let bar = i * (16 * n);
-        if structure::belongs(ws, at, bs, bar, n, counts, offs, cut) {
+        if structure::belongs(ws, at, bs, bar, x, cut) {
             return true;
         }
         i += 1;
@@ -166,32 +160,23 @@ pub fn belongs_any(
 }
 
 // Does the cut that holds no event belong to one of the structures?
-pub fn starts(
-    ws: &[u8],
-    bs: &[u8],
-    count: usize,
-    n: usize,
-    e: usize,
-    counts: &[u8; 8],
-    offs: &[u8; 8],
-) -> bool
-    requires { ⌜ Stations n (now counts) (now offs) ⌝ }
-    requires { ⌜ Stands n e (now counts) count (now ws) (now bs) ⌝ }
-    ensures { λ r. ⌜ r ≡ belongsAny (standing n (take n (now (counts .entry))) count (now (ws .entry)) (now (bs .entry))) (empty n) ⌝ }
+fn starts(ws: &[u8], bs: &[u8], count: usize, x: Shape) -> bool
+    requires { ⌜ Stands x count (now ws) (now bs) ⌝ }
+    ensures { λ r. ⌜ r ≡ belongsAny (standing (x .n) (take (x .n) (x .counts)) count (now (ws .entry)) (now (bs .entry))) (empty (x .n)) ⌝ }
 {
-    let cut = model::Log::empty_cut();
-    belongs_any(ws, bs, count, n, e, counts, offs, &cut)
+    let cut = Log::empty_cut();
+    belongs_any(ws, bs, count, x, &cut)
 }
 
 // 01 for yes, 00 for no.
-pub fn yes_no(b: bool) -> u8
+fn yes_no(b: bool) -> u8
     ensures { λ r. ⌜ r ≡ yesNo b ⌝ }
 {
     if b { 1 } else { 0 }
 }
 
 // A number in four bytes, high byte first.
-pub fn put_four(v: u32, out: &mut [u8], at: usize)
+fn put_four(v: u32, out: &mut [u8], at: usize)
     requires { ⌜ at + 4 ≤ length (now out) ⌝ }
     ensures { λ _. ⌜ now (out .exit) ≡ putOf (now (out .entry)) at (fourBytes v) ⌝ }
 {
@@ -202,7 +187,7 @@ pub fn put_four(v: u32, out: &mut [u8], at: usize)
 }
 
 // The answer's frame into an array; hands back its length.
-pub fn put_frame(
+fn put_frame(
     start: bool,
     cuts: &[u8],
     count: usize,
@@ -210,20 +195,20 @@ pub fn put_frame(
     rounds: u32,
     frame: &mut [u8],
 ) -> usize
-    requires { ⌜ (count ≤ 16) × (n ≤ 8) × (count * n ≤ length (now cuts)) × (length (now frame) ≡ 135) ⌝ }
-    ensures { λ r. ⌜ (r ≤ 135) × (take r (now (frame .exit)) ≡ 0x40 ∷ yesNo start ∷ count ∷ (take (count * n) (now (cuts .entry)) ++ fourBytes rounds)) ⌝ }
+    requires { ⌜ (count ≤ 16) × (n ≤ limits .stations) × (count * n ≤ length (now cuts)) × (length (now frame) ≡ frameSize) ⌝ }
+    ensures { λ r. ⌜ (r ≤ frameSize) × (take r (now (frame .exit)) ≡ 0x40 ∷ yesNo start ∷ count ∷ (take (count * n) (now (cuts .entry)) ++ fourBytes rounds)) ⌝ }
 {
     let end = count * n;
     frame[0] = 0x40;
     frame[1] = yes_no(start);
     frame[2] = count as u8;
-    structure::copy(frame, 3, cuts, 0, end);
+    cells::copy(frame, 3, cuts, 0, end);
     put_four(rounds, frame, end + 3);
     end + 7
 }
 
 // The answer's line at the front of `out`; hands back its length.
-pub fn put_answer(
+fn put_answer(
     start: bool,
     cuts: &[u8],
     count: usize,
@@ -231,10 +216,10 @@ pub fn put_answer(
     rounds: u32,
     out: &mut [u8],
 ) -> usize
-    requires { ⌜ (count ≤ 16) × (n ≤ 8) × (count * n ≤ length (now cuts)) × (273 ≤ length (now out)) ⌝ }
+    requires { ⌜ (count ≤ 16) × (n ≤ limits .stations) × (count * n ≤ length (now cuts)) × (lineSize ≤ length (now out)) ⌝ }
     ensures { λ r. ⌜ Written (answerLine (record { start = start; cuts = cutsAt n count (now (cuts .entry)); rounds = rounds })) r (now (out .entry)) (now (out .exit)) ⌝ }
 {
-    let mut frame = [0u8; 135];
+    let mut frame = [0u8; Log::FRAME];
     let end = put_frame(start, cuts, count, n, rounds, &mut frame);
     wire::put_line(&frame[..end], out, 0)
 }
@@ -253,20 +238,18 @@ pub fn write_answer(
     ws: &[u8],
     bs: &[u8],
     count: usize,
-    n: usize,
-    e: usize,
-    counts: &[u8; 8],
-    offs: &[u8; 8],
+    x: Shape,
     rounds: u32,
     out: &mut [u8],
 ) -> usize
-    requires { ⌜ Stations n (now counts) (now offs) ⌝ }
-    requires { ⌜ Stands n e (now counts) count (now ws) (now bs) ⌝ }
-    requires { ⌜ (count ≤ 16) × (273 ≤ length (now out)) ⌝ }
-    ensures { λ r. ⌜ ((K : Computation) (f : Formula) → stations K ≡ n → standing n (take n (now (counts .entry))) count (now (ws .entry)) (now (bs .entry)) ≡ basis K (asTrue f) → rounds ≡ basisRounds K (asTrue f) → Written (answerLine (answer K f)) r (now (out .entry)) (now (out .exit))) ⌝ }
+    requires { ⌜ Stands x count (now ws) (now bs) ⌝ }
+    requires { ⌜ (count ≤ 16) × (lineSize ≤ length (now out)) ⌝ }
+    ensures { λ r. ⌜ ((K : Computation) (f : Formula) → stations K ≡ x .n → standing (x .n) (take (x .n) (x .counts)) count (now (ws .entry)) (now (bs .entry)) ≡ basis K (asTrue f) → rounds ≡ basisRounds K (asTrue f) → Written (answerLine (answer K f)) r (now (out .entry)) (now (out .exit))) ⌝ }
 {
-    let start = starts(ws, bs, count, n, e, counts, offs);
-    let mut cuts = [0u8; 128];
+    let n = x.n;
+    let e = x.e;
+    let start = starts(ws, bs, count, x);
+    let mut cuts = [0u8; Log::CUTS];
     let listed = list_cuts(ws, count, n, e, &mut cuts);
     put_answer(start, &cuts, listed, n, rounds, out)
 }

@@ -13,32 +13,32 @@ use Rattle.report.proofs.belongs_any.Statement.{statement}
 use Rattle.report.proofs.belongs_any.Tie as tie
 
 abbrev Inv-loop : tie.InvT-loop
-Inv-loop ws bs count n e counts offs cut i₀ i =
-    (i ≤ count) × (belongsAny (standing n (take n counts) count ws bs) (take n cut) ≡ belongsAny (standing n (take n counts) (count - i) (drop (i * ((e + 1) * n)) ws) (drop (i * (16 * n)) bs)) (take n cut))
+Inv-loop ws bs count x cut n e i₀ i =
+    (i ≤ count) × (belongsAny (standing n (take n (x .counts)) count ws bs) (take n cut) ≡ belongsAny (standing n (take n (x .counts)) (count - i) (drop (i * ((e + 1) * n)) ws) (drop (i * (16 * n)) bs)) (take n cut))
 
 abbrev μ-loop : tie.MeasureT-loop
-μ-loop ws bs count n e counts offs cut i₀ i = count - i
+μ-loop ws bs count x cut n e i₀ i = count - i
 
 loop-holds : tie.Need-loop-holds Inv-loop μ-loop
 loop-holds c =
     let a = c .before .before .args in
-    (omega arith, stands.belongs-all (a .n) (a .e) (a .count) (take (a .n) (a .counts .now)) (a .ws .now) (a .bs .now) (take (a .n) (a .cut .now)))
+    (omega arith, stands.belongs-all (a .x .n) (a .x .e) (a .count) (take (a .x .n) (a .x .counts)) (a .ws .now) (a .bs .now) (take (a .x .n) (a .cut .now)))
 
 add-at : tie.Need-add-at Inv-loop μ-loop
 add-at c =
     let s = c .before .before .before .before in
-    let w = within ((s .args .e + 1) * s .args .n) (c .before .loop .i) (s .args .count) (c .loop-test .taken) (s .pre .1 .0 .cells-fit) in
-    omega (arith, w, le-mul-of-pos-right (s .args .e + 1) (s .pre .0 .some-station))
+    let w = within ((s .args .x .e + 1) * s .args .x .n) (c .before .loop .i) (s .args .count) (c .loop-test .taken) (s .pre .0 .cells-fit) in
+    omega (arith, w, le-mul-of-pos-right (s .args .x .e + 1) (s .pre .0 .shaped .some-station))
 
 mul-at : tie.Need-mul-at Inv-loop μ-loop
 mul-at c =
     let s = c .before .before .before .before in
-    omega (arith, within ((s .args .e + 1) * s .args .n) (c .before .loop .i) (s .args .count) (c .loop-test .taken) (s .pre .1 .0 .cells-fit))
+    omega (arith, within ((s .args .x .e + 1) * s .args .x .n) (c .before .loop .i) (s .args .count) (c .loop-test .taken) (s .pre .0 .cells-fit))
 
 mul-at-2 : tie.Need-mul-at-2 Inv-loop μ-loop
 mul-at-2 c =
     let s = c .before .before .before .before in
-    omega (arith, within ((s .args .e + 1) * s .args .n) (c .before .loop .i) (s .args .count) (c .loop-test .taken) (s .pre .1 .0 .cells-fit))
+    omega (arith, within ((s .args .x .e + 1) * s .args .x .n) (c .before .loop .i) (s .args .count) (c .loop-test .taken) (s .pre .0 .cells-fit))
 
 mul-bar : tie.Need-mul-bar Inv-loop μ-loop
 mul-bar c = search needs
@@ -46,7 +46,7 @@ mul-bar c = search needs
 mul-bar-2 : tie.Need-mul-bar-2 Inv-loop μ-loop
 mul-bar-2 c =
     let s = c .before .before .before .before in
-    omega (arith, within (16 * s .args .n) (c .before .loop .i) (s .args .count) (c .loop-test .taken) (s .pre .1 .0 .bars-fit))
+    omega (arith, within (16 * s .args .x .n) (c .before .loop .i) (s .args .count) (c .loop-test .taken) (s .pre .0 .bars-fit))
 
 belongs-requires : tie.Need-belongs-requires Inv-loop μ-loop
 belongs-requires c κs =
@@ -54,15 +54,15 @@ belongs-requires c κs =
     let a = s .args in
     let i = c .before .loop .i in
     let h = c .loop-test .taken in
-    let f = s .pre .1 .0 in
-    (s .pre .0, (s .pre .1 .1, stands.cells-within (a .n) (a .e) (a .count) (take (a .n) (a .counts .now)) (a .ws .now) (f .events) i h (f .cells-fit), f .least-there i h, within (16 * a .n) i (a .count) h (f .bars-fit)))
+    let f = s .pre .0 in
+    (f .shaped, (s .pre .1, within ((a .x .e + 1) * a .x .n) i (a .count) h (f .cells-fit), f .least-there i h, within (16 * a .x .n) i (a .count) h (f .bars-fit)))
 
 returns : tie.Need-returns Inv-loop μ-loop
 returns c =
     let s = c .before .before .before .before .before .before in
     let a = s .args in
     let l = c .before .before .before .loop in
-    sym (l .inv .1 ∙ stands.one-belongs (a .n) (a .e) (a .count) (take (a .n) (a .counts .now)) (a .ws .now) (s .pre .1 .0 .events) (take (a .n) (a .cut .now)) (a .bs .now) (l .i) (c .before .before .loop-test .taken) (c .before .belongs .ensures) (c .if1 .taken))
+    sym (l .inv .1 ∙ stands.one-belongs (a .x .n) (a .x .e) (a .count) (take (a .x .n) (a .x .counts)) (a .ws .now) (s .pre .0 .shaped .events-are) (take (a .x .n) (a .cut .now)) (a .bs .now) (l .i) (c .before .before .loop-test .taken) (c .before .belongs .ensures) (c .if1 .taken))
 
 add-i : tie.Need-add-i Inv-loop μ-loop
 add-i c = search needs
@@ -75,14 +75,14 @@ loop-again c =
     let s = c .before .before .before .before .before .before in
     let a = s .args in
     let l = c .before .before .before .loop in
-    (omega arith, l .inv .1 ∙ stands.others-belong (a .n) (a .e) (a .count) (take (a .n) (a .counts .now)) (a .ws .now) (s .pre .1 .0 .events) (take (a .n) (a .cut .now)) (a .bs .now) (l .i) (c .before .before .loop-test .taken) (c .before .belongs .ensures) (c .if1 .left))
+    (omega arith, l .inv .1 ∙ stands.others-belong (a .x .n) (a .x .e) (a .count) (take (a .x .n) (a .x .counts)) (a .ws .now) (s .pre .0 .shaped .events-are) (take (a .x .n) (a .cut .now)) (a .bs .now) (l .i) (c .before .before .loop-test .taken) (c .before .belongs .ensures) (c .if1 .left))
 
 returns-2 : tie.Need-returns-2 Inv-loop μ-loop
 returns-2 c =
     let s = c .before .before .before .before in
     let a = s .args in
     let l = c .before .loop in
-    sym (l .inv .1 ∙ stands.none-belongs (a .n) (a .e) (a .count) (take (a .n) (a .counts .now)) (a .ws .now) (s .pre .1 .0 .events) (take (a .n) (a .cut .now)) (a .bs .now) (l .i) (c .loop-test .left))
+    sym (l .inv .1 ∙ stands.none-belongs (a .x .n) (a .x .e) (a .count) (take (a .x .n) (a .x .counts)) (a .ws .now) (s .pre .0 .shaped .events-are) (take (a .x .n) (a .cut .now)) (a .bs .now) (l .i) (c .loop-test .left))
 
 pub belongs-any-spec : {M : Type 1} → statement M
 belongs-any-spec =

@@ -3,6 +3,7 @@ use mathlib.Core.Path.{_≡_, sym}
 use native.Mathlib.Omega.{arith}
 use lib.ListN.{length}
 use lib.Seq.{length-take-le}
+use Rattle.model.specs.Limits.{frameSize}
 use Rattle.report.proofs.Frames.{answer-line, frame-fits, written}
 use borrow.Author.Needs.{needs}
 use Rattle.report.proofs.put_answer.Statement.{statement}
@@ -20,7 +21,7 @@ array-share-prefix-frame c = search needs
 slice-aggregate-put-line : tie.Need-slice-aggregate-put-line
 slice-aggregate-put-line c =
     let f = c .before .before .put-frame in
-    let k : length (f .last .1 .1 .1 .1 .1 .0) ≡ 135 = f .kept .1 .1 .1 .1 .1 .0 in
+    let k : length (f .last .1 .1 .1 .1 .1 .0) ≡ frameSize = f .kept .1 .1 .1 .1 .1 .0 in
     sym (length-take-le _ _ (omega (arith, k, f .ensures .0)))
 
 put-line-requires : tie.Need-put-line-requires

@@ -4,6 +4,7 @@ use Prim.Native.Nat.{_*_, _≤_}
 use native.Mathlib.Nat.{mul-le-mul, le-trans}
 use native.Mathlib.Omega.{arith}
 use lib.ListN.{length, take}
+use Rattle.model.specs.Limits.{limits}
 use Rattle.structure.specs.Layout.{cutsAt}
 use Rattle.report.proofs.Answers.{answer-is}
 use borrow.Author.Needs.{needs}
@@ -19,7 +20,7 @@ slice-aggregate-list-cuts c = search needs
 list-cuts-requires : tie.Need-list-cuts-requires
 list-cuts-requires c κs =
     let s = c .before .before .before .before .before in
-    (s .pre .0 .some-station, s .pre .0 .few-stations, s .pre .1 .0 .cells-fit, mul-le-mul {n₂ = 16} {m₂ = 8} (s .pre .1 .1 .0) (s .pre .0 .few-stations))
+    (s .pre .0 .shaped .some-station, s .pre .0 .shaped .few-stations, s .pre .0 .cells-fit, mul-le-mul {n₂ = 16} {m₂ = 8} (s .pre .1 .0) (s .pre .0 .shaped .few-stations))
 
 slice-aggregate-put-answer : tie.Need-slice-aggregate-put-answer
 slice-aggregate-put-answer c = search needs
@@ -28,10 +29,10 @@ put-answer-requires : tie.Need-put-answer-requires
 put-answer-requires c κs =
     let s = c .before .before .before .before .before .before .before .before .before in
     let l = c .before .before .before .list-cuts in
-    let h : l .result ≤ 16 = le-trans (l .ensures .0) (s .pre .1 .1 .0) in
-    let m : l .result * s .args .n ≤ 128 = mul-le-mul {n₂ = 16} {m₂ = 8} h (s .pre .0 .few-stations) in
-    let k : length (l .last .1 .1 .1 .1 .0) ≡ 128 = l .kept .1 .1 .1 .1 .0 in
-    (h, s .pre .0 .few-stations, omega (arith, m, k), s .pre .1 .1 .1)
+    let h : l .result ≤ 16 = le-trans (l .ensures .0) (s .pre .1 .0) in
+    let m : l .result * s .args .x .n ≤ 16 * limits .stations = mul-le-mul {n₂ = 16} {m₂ = 8} h (s .pre .0 .shaped .few-stations) in
+    let k : length (l .last .1 .1 .1 .1 .0) ≡ 16 * limits .stations = l .kept .1 .1 .1 .1 .0 in
+    (h, s .pre .0 .shaped .few-stations, omega (arith, m, k), s .pre .1 .1)
 
 same-length : tie.Need-same-length
 same-length c = search needs
@@ -44,7 +45,7 @@ returns c =
     let l = c .before .before .before .before .before .before .list-cuts in
     let p = c .before .before .put-answer in
     λ K f t q k.
-    answer-is K f (a .n) (a .count) (take (a .n) (a .counts .now)) (a .ws .now) (a .bs .now) (b .result) (cutsAt (a .n) (l .result) (l .last .1 .1 .1 .1 .0)) (a .rounds) (p .result) (a .out .now) (p .last .1 .1 .1 .1 .1 .0) t q k (b .ensures) (l .ensures .1 (take (a .n) (a .counts .now)) (a .bs .now) (s .pre .1 .0 .events)) (p .ensures)
+    answer-is K f (a .x .n) (a .count) (take (a .x .n) (a .x .counts)) (a .ws .now) (a .bs .now) (b .result) (cutsAt (a .x .n) (l .result) (l .last .1 .1 .1 .1 .0)) (a .rounds) (p .result) (a .out .now) (p .last .1 .1 .1 .1 .1 .0) t q k (b .ensures) (l .ensures .1 (take (a .x .n) (a .x .counts)) (a .bs .now) (s .pre .0 .shaped .events-are)) (p .ensures)
 
 pub write-answer-spec : {M : Type 1} → statement M
 write-answer-spec =
