@@ -4,11 +4,10 @@ use mathlib.Core.Bool.{Bool, true}
 use mathlib.Core.List.{List, [], _++_, append-nil}
 use Prim.Native.Nat.{ℕ, _+_, _*_, _≤_}
 use native.Mathlib.Omega.{arith}
-use native.Mathlib.Nat.{le-trans, mul-le-mul}
-use native.Mathlib.Numerals.{add-one}
+use native.Mathlib.Nat.{le-trans, mul-le-mul, mul-le-mul-right}
 use lib.ListN.{length, take, drop}
 use lib.Seq.{take-all}
-use Rattle.model.specs.Lists.{total}
+use Rattle.model.specs.Limits.{barspaceSize}
 use Rattle.model.specs.Formula.{Formula, prefix}
 use Rattle.model.specs.Computation.{Computation, stations, full}
 use Rattle.model.specs.Rules.{asTrue}
@@ -18,23 +17,22 @@ use Rattle.model.specs.Basis.{basis}
 use Rattle.model.specs.Rounds.{rounds}
 use Rattle.model.specs.Answer.{trueAt, answer, answerLine}
 use Rattle.lattice.proofs.Size.{basis-width, narrow-to}
-use Rattle.lattice.proofs.Held.{fits-to, workspace-fits, barspace-fits}
+use Rattle.lattice.proofs.Held.{fits-to, width-held, barspace-fits}
 use Rattle.structure.specs.Layout.{standing}
-use Rattle.structure.specs.Stations.{Stations}
+use Rattle.structure.specs.declared.Shape.{Shape}
 use Rattle.structure.proofs.Standing.{length-standing}
 use Rattle.basis.specs.Contract.{Ready, Made}
 use Rattle.report.specs.Stands.{Stands}
 use Rattle.report.specs.Written.{Written}
-use Rattle.verdict.specs.Questions.{Question}
+use Rattle.verdict.specs.Questions.{Question, cellsHeld}
 
-module _ {K : Computation} {f : Formula} {q : List ℕ} {n e : ℕ} {counts offs starts values : List ℕ} (g : Question K f q n e counts offs starts values) where
+module _ {K : Computation} {f : Formula} {q : List ℕ} {shape : Shape} {starts values : List ℕ} (g : Question K f q shape starts values) where
   spelt : q ≡ prefix f ++ []
   spelt = g .spells ∙ sym (append-nil (prefix f))
 
   -- There is room.
-  pub room : (ws bs : ℕ) → 65536 ≤ ws → 8192 ≤ bs → Ready true n e q counts offs starts values ws bs
+  pub room : (ws bs : ℕ) → cellsHeld f shape ≤ ws → barspaceSize ≤ bs → Ready true shape q starts values ws bs
   room ws bs h k =
-      let cells : held (asTrue f) * ((e + 1) * n) ≤ 65536 = rw (add-one e) (workspace-fits f (g .fitting) n e (g .laid .few-stations) (g .laid .few-events)) in
       record {
         computation = K;
         laid = g .laid;
@@ -44,44 +42,40 @@ module _ {K : Computation} {f : Formula} {q : List ℕ} {n e : ℕ} {counts offs
         known = g .named;
         slim = fits-to f (g .fitting) .2;
         short = fits-to f (g .fitting) .0;
-        cells-fit = le-trans cells h;
-        bars-fit = le-trans (barspace-fits f (g .fitting) n (g .laid .few-stations)) k;
+        cells-fit = h;
+        bars-fit = le-trans (barspace-fits f (g .fitting) (shape .n) (g .laid .0 .shaped .few-stations)) k;
       }
-
-  pub stations-known : Stations n counts offs
-  stations-known = record {
-    some-station = g .laid .some-station;
-    few-stations = g .laid .few-stations;
-    offs-are = λ j h. rw (g .laid .counts-are) (g .laid .offs-are j h);
-  }
 
   -- THE BASIS
 
-  module _ {count used sum : ℕ} {ws bs : List ℕ} (w : Made true n e q counts offs starts values count used sum ws bs) where
-    is-basis : standing n (full K) count ws bs ≡ basis K (asTrue f)
+  module _ {count used sum : ℕ} {ws bs : List ℕ} (w : Made true shape q starts values count used sum ws bs) where
+    is-basis : standing (shape .n) (full K) count ws bs ≡ basis K (asTrue f)
     is-basis = w .stands K f [] (g .laid) spelt
 
     pub count-few : count ≤ 16
-    count-few = omega (arith, length-standing n (full K) count ws bs, ap length is-basis, basis-width K (asTrue f), narrow-to (asTrue f) (fits-to f (g .fitting) .2) .0)
+    count-few = omega (arith, length-standing (shape .n) (full K) count ws bs, ap length is-basis, basis-width K (asTrue f), narrow-to (asTrue f) (fits-to f (g .fitting) .2) .0)
 
-    pub stands : 65536 ≤ length ws → 8192 ≤ length bs → Stands n e counts count ws bs
+    count-held : count ≤ held (asTrue f)
+    count-held = omega (arith, length-standing (shape .n) (full K) count ws bs, ap length is-basis, basis-width K (asTrue f), width-held (asTrue f))
+
+    pub stands : cellsHeld f shape ≤ length ws → barspaceSize ≤ length bs → Stands shape count ws bs
     stands h b = record {
-      events = ap total (g .laid .counts-are) ∙ g .laid .counted;
-      cells-fit = le-trans (mul-le-mul {n₂ = 16} {m₂ = 1024} count-few (mul-le-mul {n₁ = e + 1} {n₂ = 128} {m₂ = 8} (omega (arith, g .laid .few-events)) (g .laid .few-stations))) (omega arith);
-      bars-fit = le-trans (mul-le-mul {n₂ = 16} {m₂ = 128} count-few (omega (arith, g .laid .few-stations))) (omega arith);
+      shaped = g .laid .0 .shaped;
+      cells-fit = le-trans (mul-le-mul-right ((shape .e + 1) * shape .n) count-held) h;
+      bars-fit = le-trans (mul-le-mul {n₂ = 16} {m₂ = 128} count-few (omega (arith, g .laid .0 .shaped .few-stations))) (omega arith);
       least-there = w .least;
     }
 
-    placed : standing n (take n counts) count ws bs ≡ basis K (asTrue f)
-    placed = ap (λ (l : List ℕ). standing n l count ws bs) (g .laid .counts-are) ∙ is-basis
+    placed : standing (shape .n) (take (shape .n) (shape .counts)) count ws bs ≡ basis K (asTrue f)
+    placed = ap (λ (l : List ℕ). standing (shape .n) l count ws bs) (g .laid .0 .counts-are) ∙ is-basis
 
     -- Whether the question is true at a cut that was copied.
-    pub cut-told : (b : Bool) (at cut : List ℕ) → b ≡ belongsAny (standing n (take n counts) count ws bs) (take n at) → take n at ≡ take n (drop 0 cut) → length cut ≡ n → b ≡ trueAt K f cut
+    pub cut-told : (b : Bool) (at cut : List ℕ) → b ≡ belongsAny (standing (shape .n) (take (shape .n) (shape .counts)) count ws bs) (take (shape .n) at) → take (shape .n) at ≡ take (shape .n) (drop 0 cut) → length cut ≡ shape .n → b ≡ trueAt K f cut
     unfolding trueAt
-    cut-told b at cut p q l = p ∙ ap (λ L. belongsAny L (take n at)) placed ∙ ap (belongsAny (basis K (asTrue f))) (q ∙ take-all n cut (omega arith))
+    cut-told b at cut p q l = p ∙ ap (λ L. belongsAny L (take (shape .n) at)) placed ∙ ap (belongsAny (basis K (asTrue f))) (q ∙ take-all (shape .n) cut (omega arith))
 
     -- A line that is the answer's for whatever computation and formula have this basis and these rounds.
     pub line-told : {m : ℕ} {out out′ : List ℕ}
-        → ((K : Computation) (f : Formula) → stations K ≡ n → standing n (take n counts) count ws bs ≡ basis K (asTrue f) → sum ≡ rounds K (asTrue f) → Written (answerLine (answer K f)) m out out′)
+        → ((K : Computation) (f : Formula) → stations K ≡ shape .n → standing (shape .n) (take (shape .n) (shape .counts)) count ws bs ≡ basis K (asTrue f) → sum ≡ rounds K (asTrue f) → Written (answerLine (answer K f)) m out out′)
         → Written (answerLine (answer K f)) m out out′
-    line-told put = put K f (g .laid .stationed) placed (w .counted K f [] (g .laid) spelt)
+    line-told put = put K f (g .laid .0 .stationed) placed (w .counted K f [] (g .laid) spelt)

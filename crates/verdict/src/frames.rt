@@ -1,16 +1,10 @@
 // Frames of a frame list.
+use cells::wide;
 ghost use mathlib.Core.Path.{_≡_};
 ghost use mathlib.Core.List.{List, []};
 ghost use Prim.Native.Nat.{ℕ, _≤_, _<_};
 ghost use lib.ListN.{length, getD};
 ghost use Rattle.verdict.specs.Questions.{Indexed, Asks};
-
-// A byte as a number.
-fn wide(x: u8) -> usize
-    ensures { λ r. ⌜ (r ≡ x) × (r < 256) ⌝ }
-{
-    x as usize
-}
 
 // The frame at an index of a frame list.
 pub fn frame_at(list: &[u8], index: usize) -> &[u8]

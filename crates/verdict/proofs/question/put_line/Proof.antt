@@ -1,19 +1,19 @@
 -- `put_line` meets its contract: the basis stands where the report looks for it, and its rounds are the question's. Assumes nothing.
 use native.Mathlib.Omega.{arith}
 use borrow.Author.Needs.{needs}
-use Rattle.verdict.proofs.Bases.{room, stations-known, count-few, stands, line-told}
+use Rattle.verdict.proofs.Bases.{room, count-few, stands, line-told}
 use Rattle.verdict.proofs.question.put_line.Statement.{statement}
 use Rattle.verdict.proofs.question.put_line.Tie as tie
 
 basis-true-requires : tie.Need-basis-true-requires
-basis-true-requires c κs = let p = c .before .before .before .before .before .before .before .before .pre in room (p .0 .2) _ _ (p .1 .0) (p .1 .1)
+basis-true-requires c κs = let p = c .before .before .before .before .before .before .before .before .pre in room (p .0 .2) _ _ (p .0 .3) (p .1 .0)
 
 write-answer-requires : tie.Need-write-answer-requires
 write-answer-requires c κs =
     let p = c .before .before .before .before .before .before .before .before .before .before .before .before .before .before .before .before .pre in
     let g = p .0 .2 in
     let b = c .before .before .before .before .before .before .before .basis-true in
-    (stations-known g, (stands g (b .ensures) (omega (arith, b .kept .1 .0, p .1 .0)) (omega (arith, b .kept .1 .1 .0, p .1 .1)), (count-few g (b .ensures), p .1 .2)))
+    (stands g (b .ensures) (omega (arith, b .kept .1 .0, p .0 .3)) (omega (arith, b .kept .1 .1 .0, p .1 .0)), (count-few g (b .ensures), p .1 .1))
 
 same-length : tie.Need-same-length
 same-length c = search needs

@@ -1,21 +1,22 @@
 -- `true_at` meets its contract: a cut belongs to the basis exactly where the question is true. Assumes nothing.
 use native.Mathlib.Omega.{arith}
 use borrow.Author.Needs.{needs}
-use Rattle.verdict.proofs.Bases.{room, stations-known, stands, cut-told}
+use Rattle.verdict.proofs.Bases.{room, stands, cut-told}
 use Rattle.verdict.proofs.question.true_at.Statement.{statement}
 use Rattle.verdict.proofs.question.true_at.Tie as tie
 
 basis-true-requires : tie.Need-basis-true-requires
-basis-true-requires c κs = room (c .before .before .before .before .before .before .before .before .pre .0 .2) _ _ (c .before .before .before .before .before .before .before .before .pre .1 .1) (c .before .before .before .before .before .before .before .before .pre .1 .2)
+basis-true-requires c κs = let p = c .before .before .before .before .before .before .before .before .pre in room (p .0 .2) _ _ (p .0 .3) (p .1 .1)
 
 cut-at-requires : tie.Need-cut-at-requires
-cut-at-requires c κs = (c .before .before .before .before .before .before .before .before .before .before .before .before .before .pre .0 .2 .laid .few-stations, omega (arith, c .before .before .before .before .before .before .before .before .before .before .before .before .before .pre .1 .0))
+cut-at-requires c κs = (c .before .before .before .before .before .before .before .before .before .before .before .before .before .pre .0 .2 .laid .0 .shaped .few-stations, omega (arith, c .before .before .before .before .before .before .before .before .before .before .before .before .before .pre .1 .0))
 
 belongs-any-requires : tie.Need-belongs-any-requires
 belongs-any-requires c κs =
-    let g = c .before .before .before .before .before .before .before .before .before .before .before .before .before .before .before .before .before .pre .0 .2 in
+    let p = c .before .before .before .before .before .before .before .before .before .before .before .before .before .before .before .before .before .pre in
+    let g = p .0 .2 in
     let b = c .before .before .before .before .before .before .before .before .basis-true in
-    (stations-known g, (stands g (b .ensures) (omega (arith, b .kept .1 .0, c .before .before .before .before .before .before .before .before .before .before .before .before .before .before .before .before .before .pre .1 .1)) (omega (arith, b .kept .1 .1 .0, c .before .before .before .before .before .before .before .before .before .before .before .before .before .before .before .before .before .pre .1 .2)), c .before .before .before .cut-at .ensures .1))
+    (stands g (b .ensures) (omega (arith, b .kept .1 .0, p .0 .3)) (omega (arith, b .kept .1 .1 .0, p .1 .1)), c .before .before .before .cut-at .ensures .2)
 
 same-length : tie.Need-same-length
 same-length c = search needs
