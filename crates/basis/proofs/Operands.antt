@@ -45,7 +45,7 @@ lifted-barred shape k c starts w w₂ b b₂ t f d = rw f (record { stands = d .
 
 pub combined-pairs : (shape : Shape) (l r u v : ℕ) (starts w w₂ b b₂ : List ℕ) (c j sum : ℕ) (t : Bool) → t ≡ true → sum ≡ u + v + j
     → Paired shape l r starts w w₂ b b₂ c j → Combined t shape l r u v starts w w₂ b b₂ c sum
-combined-pairs shape l r u v starts w w₂ b b₂ c j sum t f g d = rw f (record { joined-rounds = j; joined = record { stands = d .stands; summed = d .summed; least = d .least; small = d .small }; summed = g })
+combined-pairs shape l r u v starts w w₂ b b₂ c j sum t f g d = rw f (record { joined-rounds = j; joined = record { stands = d .stands; summed = d .summed; least = d .least }; summed = g })
 
 -- One basis behind the other: nothing is moved.
 pub combined-all : (shape : Shape) (l r u v : ℕ) (starts w b : List ℕ) (c sum : ℕ) (t : Bool) → t ≡ false → c ≡ l + r → sum ≡ u + v
@@ -53,13 +53,12 @@ pub combined-all : (shape : Shape) (l r u v : ℕ) (starts w b : List ℕ) (c su
 combined-all shape l r u v starts w b c sum t f g h least = rw (f, g) (record {
   joined-rounds = 0;
   joined = record {
-    stands = λ K laid.
+    stands = λ K laid gl gr.
         let n : ℕ = shape .n in
         let x = cells-are n (shape .e) (full K) (laid .counted) in
         standing-add n (full K) l r w b ∙ ap (λ (y : ℕ). standing n (full K) l w b ++ standing n (full K) r (drop (l * y) w) (drop (l * barCells n) b)) x;
-    summed = λ K laid. refl;
+    summed = λ K laid gl gr. refl;
     least = least;
-    small = omega arith;
   };
   summed = omega arith;
 })

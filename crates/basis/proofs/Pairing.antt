@@ -34,6 +34,7 @@ use Rattle.modal.proofs.Laws.{part-room}
 use Rattle.basis.specs.Signed.{twoToken, joinedBasis, joinedRounds}
 use Rattle.basis.specs.Contract.{roundsMost, Ready, Made, Combined}
 use Rattle.pairs.specs.Post.{PairsReady}
+use Rattle.pairs.proofs.Goods.{standing-good}
 use Rattle.basis.proofs.Tokens as tokens
 use Rattle.basis.proofs.Normals as normals
 use Rattle.basis.proofs.Operands.{Done, done-at, question-some}
@@ -214,7 +215,6 @@ module _ (s b : Bool) (shape : Shape) (q q′ starts values : List ℕ) (w₀ b�
               right = right-done .few;
               cells-fit = omega (arith, mul-le-mul-right size tot, r .cells-fit, len);
               bars-fit = omega (arith, mul-le-mul-right slot tot, r .bars-fit, lenb);
-              least = least-both;
               bars = λ i j hi hj.
                   let x : length (barsAt (shape .n) 16 (drop (i * slot) b₃)) ≤ bars (normal s f₁) =
                   omega (
@@ -247,19 +247,20 @@ module _ (s b : Bool) (shape : Shape) (q q′ starts values : List ℕ) (w₀ b�
           stands = λ K f rest laid rd.
               let h = tokens.behind-two q f rest rd b k in
               let x : u ≡ length (prefix (h .0)) = m .passed (h .0) (prefix (h .1) ++ rest) (d ∙ h .3) in
-              C .joined .stands K (laid .0)
-              ∙ ap₂ (joinedBasis t K) (left-stands K (laid .0) ∙ m .stands K (h .0) (prefix (h .1) ++ rest) laid (d ∙ h .3))
-              (right-stands K (laid .0) ∙ m₂ .stands K (h .1) rest laid (d₂ ∙ tokens.second q u (prefix (h .0)) (prefix (h .1) ++ rest) (h .3) x))
+              let L = left-stands K (laid .0) ∙ m .stands K (h .0) (prefix (h .1) ++ rest) laid (d ∙ h .3) in
+              let R = right-stands K (laid .0) ∙ m₂ .stands K (h .1) rest laid (d₂ ∙ tokens.second q u (prefix (h .0)) (prefix (h .1) ++ rest) (h .3) x) in
+              C .joined .stands K (laid .0) (standing-good K (laid .0 .valid) (normal s (h .0)) _ L) (standing-good K (laid .0 .valid) (normal s (h .1)) _ R)
+              ∙ ap₂ (joinedBasis t K) L R
               ∙ ap (λ (g : Bool). joinedBasis g K (basis K (normal s (h .0))) (basis K (normal s (h .1)))) flag
               ∙ sym (normals.basis-joined (Bool·beq b s) K (normal s (h .0)) (normal s (h .1))) ∙ ap (basis K) (sym (ap (normal s) (h .2) ∙ signed.normal-two s b (h .0) (h .1)));
           counted = λ K f rest laid rd.
               let h = tokens.behind-two q f rest rd b k in
               let x : u ≡ length (prefix (h .0)) = m .passed (h .0) (prefix (h .1) ++ rest) (d ∙ h .3) in
               let rr : drop (u + 1) q ≡ prefix (h .1) ++ rest = tokens.second q u (prefix (h .0)) (prefix (h .1) ++ rest) (h .3) x in
+              let L = left-stands K (laid .0) ∙ m .stands K (h .0) (prefix (h .1) ++ rest) laid (d ∙ h .3) in
+              let R = right-stands K (laid .0) ∙ m₂ .stands K (h .1) rest laid (d₂ ∙ rr) in
               let j : C .joined-rounds ≡ joinedRounds (Bool·beq b s) K (basis K (normal s (h .0))) (basis K (normal s (h .1))) =
-              C .joined .summed K (laid .0)
-              ∙ ap₂ (joinedRounds t K) (left-stands K (laid .0) ∙ m .stands K (h .0) (prefix (h .1) ++ rest) laid (d ∙ h .3))
-              (right-stands K (laid .0) ∙ m₂ .stands K (h .1) rest laid (d₂ ∙ rr))
+              C .joined .summed K (laid .0) (standing-good K (laid .0 .valid) (normal s (h .0)) _ L) (standing-good K (laid .0 .valid) (normal s (h .1)) _ R) ∙ ap₂ (joinedRounds t K) L R
               ∙ ap (λ (g : Bool). joinedRounds g K (basis K (normal s (h .0))) (basis K (normal s (h .1)))) flag in
               let z : rounds K (normal s f) ≡ rounds K (normal s (h .0)) + rounds K (normal s (h .1)) + joinedRounds (Bool·beq b s) K (basis K (normal s (h .0))) (basis K (normal s (h .1))) =
               ap (rounds K) (ap (normal s) (h .2) ∙ signed.normal-two s b (h .0) (h .1)) ∙ normals.rounds-joined (Bool·beq b s) K (normal s (h .0)) (normal s (h .1)) in

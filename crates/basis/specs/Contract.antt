@@ -3,7 +3,7 @@ use Prim.Native.Nat.{ℕ, _+_, _*_, _≤_}
 use mathlib.Core.Path.{_≡_}
 use mathlib.Core.Bool.{Bool, true}
 use mathlib.Core.List.{List, _++_}
-use lib.ListN.{length, drop}
+use lib.ListN.{length}
 use Rattle.model.specs.Limits.{stepRounds}
 use Rattle.model.specs.Formula.{Formula, prefix, sound, tokens}
 use Rattle.model.specs.Computation.{Computation, full}
@@ -13,7 +13,10 @@ use Rattle.model.specs.Rounds.{rounds}
 use Rattle.structure.specs.Layout.{standing}
 use Rattle.structure.specs.declared.Shape.{Shape}
 use Rattle.structure.specs.Laid.{Laid, Facts}
+use Rattle.lattice.proofs.Lists.{All}
+use Rattle.lattice.proofs.Bases.{Good}
 use Rattle.modal.specs.Post.{Least}
+use Rattle.pairs.specs.Post.{standingFrom}
 use Rattle.lattice.specs.Signed.{normal}
 use Rattle.basis.specs.Signed.{joinedBasis, joinedRounds, liftedBasis}
 
@@ -47,14 +50,13 @@ pub record Made (s : Bool) (x : Shape) (q starts facts : List ℕ) (count used s
 
 -- STEPS
 
--- The l structures at the front of w and b and the r behind them became those at the front of w₂ and b₂, in `sum` rounds.
+-- The l structures at the front of w and b and the r behind them, if both are bases, became those at the front of w₂ and b₂, in `sum` rounds.
 pub record Joined (pair : Bool) (x : Shape) (l r : ℕ) (starts w w₂ b b₂ : List ℕ) (count sum : ℕ) : Type 0 where
-  pub stands : (K : Computation) → Laid K x starts
-      → standing (x .n) (full K) count w₂ b₂ ≡ joinedBasis pair K (standing (x .n) (full K) l w b) (standing (x .n) (full K) r (drop (l * ((x .e + 1) * x .n)) w) (drop (l * (16 * x .n)) b))
-  pub summed : (K : Computation) → Laid K x starts
-      → sum ≡ joinedRounds pair K (standing (x .n) (full K) l w b) (standing (x .n) (full K) r (drop (l * ((x .e + 1) * x .n)) w) (drop (l * (16 * x .n)) b))
+  pub stands : (K : Computation) → Laid K x starts → All (Good K) (standing (x .n) (full K) l w b) → All (Good K) (standingFrom (x .n) (x .e) K w b l r)
+      → standing (x .n) (full K) count w₂ b₂ ≡ joinedBasis pair K (standing (x .n) (full K) l w b) (standingFrom (x .n) (x .e) K w b l r)
+  pub summed : (K : Computation) → Laid K x starts → All (Good K) (standing (x .n) (full K) l w b) → All (Good K) (standingFrom (x .n) (x .e) K w b l r)
+      → sum ≡ joinedRounds pair K (standing (x .n) (full K) l w b) (standingFrom (x .n) (x .e) K w b l r)
   pub least : Least ((x .e + 1) * x .n) count w₂
-  pub small : sum ≤ stepRounds
 
 -- The same with the rounds u and v of the two bases.
 pub record Combined (pair : Bool) (x : Shape) (l r u v : ℕ) (starts w w₂ b b₂ : List ℕ) (count sum : ℕ) : Type 0 where

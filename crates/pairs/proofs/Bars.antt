@@ -9,7 +9,7 @@ use lib.Dec.{eqb}
 use lib.ListN.{length, getD, take, drop, length-append, length-drop}
 use lib.Seq.{paste, getD-take, getD-drop, drop-drop}
 use borrow.Author.Tests.{eq-eqb, ne-eqb}
-use Rattle.model.specs.Cut.{Cut}
+use Rattle.model.specs.Cut.{Cut, insideAny}
 use Rattle.lattice.proofs.Tests.{and-true, false-iff, not-iff}
 use Rattle.structure.specs.Layout.{cutsAt, barsAt}
 use Rattle.cells.proofs.Parts.{front-same, part-same, paste-front, paste-part}
@@ -158,3 +158,8 @@ count-start n at b =
 pub count-all : (n at i : ℕ) (b : List ℕ) (k : ℕ) → i ≡ 16 → k ≡ i + length (barsAt n (16 - i) (drop (at + i * n) b)) → i ≡ k
 unfolding barsAt
 count-all n at i b k e h = omega (arith, ap (λ (x : ℕ). length (barsAt n x (drop (at + i * n) b))) (let o : 16 - i ≡ 0 = omega arith in o))
+
+-- Where the first bar is not used there are none.
+pub no-bars : (n : ℕ) (b : List ℕ) (c : Cut) → getD b 0 0 ≡ 255 → insideAny c (barsAt n 16 b) ≡ false
+unfolding barsAt insideAny
+no-bars n b c e = rw (eq-eqb (getD b 0 0) 255 e) refl

@@ -1,34 +1,24 @@
--- The starts of a pair, one behind the other: the rows that they leave and the sum of their rounds are those of the rule.
+-- The starts of a pair, one behind the other: where each event stands among all, and that the rows and rounds of all starts are those of the rule.
 use mathlib.Core.Path.{_≡_, refl, sym, ap, ap₂, _∙_}
-use Prim.Native.Nat.{ℕ, zero, suc, _+_, _*_}
+use Prim.Native.Nat.{ℕ, zero, suc, _+_, _*_, _-_, _≤_, _<_}
 use native.Mathlib.Omega.{arith}
+use native.Mathlib.Decide.{decLt}
 use mathlib.Core.List.{List, [], _∷_, _++_, map, map-append, map-map}
-use mathlib.Core.Option.{Option, some}
-use lib.ListN.{length, take, drop}
-use lib.Seq.{take-at, drop-at}
+use mathlib.Core.Option.{Option}
+use lib.ListN.{length, getD, take, drop, length-append, length-map, List·getD-append, List·getD-map}
+use lib.Seq.{take-at, drop-at, getD-append-add}
 use Rattle.model.specs.Lists.{sum, total}
 use Rattle.model.specs.Cut.{Cut, empty}
-use Rattle.model.specs.Computation.{Computation, Event, full, eventCount}
+use Rattle.model.specs.Computation.{Computation, Event, noEvent, stations, count, clock, full, eventCount}
 use Rattle.model.specs.Structure.{Structure}
 use Rattle.model.specs.Basis.{run, start}
 use Rattle.model.specs.Rounds.{roundsOfPair}
 use Rattle.lattice.proofs.Sums.{sum-append}
 use Rattle.lattice.proofs.Shape.{same-lengths}
-use Rattle.structure.specs.Layout.{decoded, rowsAt, stationsAt, cutsAt, barsAt, structureAt}
-use Rattle.structure.proofs.Rows.{decoded-is}
+use Rattle.structure.specs.Layout.{decoded, rowsAt, stationsAt}
 use Rattle.structure.proofs.Places.{rows-add, length-rows}
-use Rattle.rounds.specs.Pair.{Starts, Intersected}
-
--- Rows that are all there, as cuts.
-cuts-are : {A : Type 0} (f : A → Cut) (n : ℕ) (l : List A) (m : ℕ) (w : List ℕ) → rowsAt n m w ≡ map (λ (v : A). some (f v)) l → cutsAt n m w ≡ map f l
-unfolding rowsAt cutsAt
-cuts-are f n [] zero w e = refl
-cuts-are f n (v ∷ l) zero w e = let z : _≡_ {A = ℕ} 0 1 = cc in absurd (omega arith)
-cuts-are f n [] (suc m) w e = let z : _≡_ {A = ℕ} 0 1 = cc in absurd (omega arith)
-cuts-are f n (v ∷ l) (suc m) w e =
-    let h : decoded (take n w) ≡ some (f v) = cc in
-    let t : rowsAt n m (drop n w) ≡ map (λ (v : _). some (f v)) l = cc in
-    rw (decoded-is (take n w) (f v) h, cuts-are f n l m (drop n w) t)
+use Rattle.slots.specs.Slots.{number}
+use Rattle.rounds.specs.Pair.{Intersected}
 
 module _ {A : Type 0} where
   -- The lists of a list, in one.
@@ -45,6 +35,11 @@ module _ {A : Type 0} where
   unfolding flat pieces
   pieces-flat [] = refl
   pieces-flat (l ∷ ls) = rw (take-at l (flat ls) (length l) refl, drop-at l (flat ls) (length l) refl, pieces-flat ls)
+
+  length-flat : (ls : List (List A)) → length (flat ls) ≡ total (map length ls)
+  unfolding flat sum
+  length-flat [] = refl
+  length-flat (l ∷ ls) = length-append l (flat ls) ∙ ap (λ (x : ℕ). length l + x) (length-flat ls)
 
   sum-flat : (g : A → ℕ) (ls : List (List A)) → sum g (flat ls) ≡ sum (sum g) ls
   unfolding sum flat
@@ -75,20 +70,42 @@ stations-pieces n (m ∷ counts) w =
     let q = rowsAt n (total counts) (drop (m * n) w) in
     rw (rows-add n m (total counts) w, take-at r q m (length-rows n m w), drop-at r q m (length-rows n m w), stations-pieces n counts (drop (m * n) w))
 
--- The starts of a computation, and what they come to.
-module _ (K : Computation) (n e : ℕ) (counts starts : List ℕ) (s : Starts K n e counts starts) where
-  starts-cuts : cutsAt n (suc e) starts ≡ empty n ∷ map (λ (v : Event). v .clock) (flat (K .events))
-  unfolding cutsAt
-  starts-cuts =
-      let h : take n starts ≡ empty n = s .starts-least in
-      let t : stationsAt n (full K) (drop n starts) ≡ map (map (λ (v : Event). some (v .clock))) (K .events) = s .starts-rows in
-      let q : rowsAt n e (drop n starts) ≡ map (λ (v : Event). some (v .clock)) (flat (K .events)) =
-      ap (λ (m : ℕ). rowsAt n m (drop n starts)) (sym (s .counted)) ∙ rows-flat n (full K) (drop n starts) ∙ ap flat t ∙ map-flat (λ (v : Event). some (v .clock)) (K .events) in
-      ap₂ (λ (c : Cut) (l : List Cut). c ∷ l) h (cuts-are (λ (v : Event). v .clock) n (flat (K .events)) e (drop n starts) q)
+-- Element i of a list of lists, and where it stands there.
+located : {A : Type 0} (d : A) (ls : List (List A)) (i : ℕ) → i < total (map length ls)
+    → (j k : ℕ) × (k < length (getD ls j [])) × (i ≡ total (take j (map length ls)) + k) × (getD (flat ls) i d ≡ getD (getD ls j []) k d)
+unfolding flat sum
+located d [] i h = absurd (omega arith)
+located d (l ∷ ls) i h = go (decLt i (length l)) (λ m p. located d ls m p)
+  where
+    go : Dec (i < length l)
+        → ((m : ℕ) → m < total (map length ls) → (j k : ℕ) × (k < length (getD ls j [])) × (m ≡ total (take j (map length ls)) + k) × (getD (flat ls) m d ≡ getD (getD ls j []) k d))
+        → (j k : ℕ) × (k < length (getD (l ∷ ls) j [])) × (i ≡ total (take j (length l ∷ map length ls)) + k) × (getD (l ++ flat ls) i d ≡ getD (getD (l ∷ ls) j []) k d)
+    go (yes p) more = (0, i, p, omega arith, List·getD-append l (flat ls) d i p)
+    go (no p) more =
+        let r = more (i - length l) (omega arith) in
+        let e : length l + (i - length l) ≡ i = omega arith in
+        (suc (r .0), r .1, r .2, omega (arith, r .3), ap (λ (x : ℕ). getD (l ++ flat ls) x d) (sym e) ∙ getD-append-add l (flat ls) (i - length l) d ∙ r .4)
 
+-- The empty cut and each event's clock.
+abbrev pub clocks : Computation → List Cut
+clocks K = empty (stations K) ∷ map (λ (v : Event). v .clock) (flat (K .events))
+
+-- The start from event i.
+pub start-at : (K : Computation) (i : ℕ) → i ≤ eventCount K → (j k : ℕ) × (k ≤ count K j) × (i ≡ number K j k) × (getD (clocks K) i [] ≡ clock K j k)
+unfolding number clock
+start-at K zero h = (0, 0, omega arith, refl, refl)
+start-at K (suc i) h =
+    let r = located noEvent (K .events) i (omega arith) in
+    (r .0, suc (r .1), r .2, omega (arith, r .3), List·getD-map (λ (v : Event). v .clock) (flat (K .events)) i noEvent ∙ ap (λ (v : Event). v .clock) (r .4))
+
+pub length-clocks : (K : Computation) → length (clocks K) ≡ suc (eventCount K)
+length-clocks K = ap suc (length-map (flat (K .events)) (λ (v : Event). v .clock) ∙ length-flat (K .events))
+
+-- What all starts come to.
+module _ (K : Computation) (n e : ℕ) (stationed : stations K ≡ n) (counted : eventCount K ≡ e) where
   module _ (S T : Structure) (w : List ℕ) (r : ℕ)
-      (rows : rowsAt n (suc e) w ≡ map (λ (c : Cut). (run S T (suc e) c) .reached) (cutsAt n (suc e) starts))
-      (sums : r ≡ sum (λ (c : Cut). (run S T (suc e) c) .rounds) (cutsAt n (suc e) starts)) where
+      (rows : rowsAt n (suc e) w ≡ map (λ (c : Cut). (run S T (suc e) c) .reached) (clocks K))
+      (sums : r ≡ sum (λ (c : Cut). (run S T (suc e) c) .rounds) (clocks K)) where
     abbrev reachedFrom : ℕ → Event → Option Cut
     reachedFrom m v = (run S T (suc m) (v .clock)) .reached
 
@@ -98,14 +115,13 @@ module _ (K : Computation) (n e : ℕ) (counts starts : List ℕ) (s : Starts K 
     all-rows : decoded (take n w) ∷ rowsAt n e (drop n w) ≡ (run S T (suc e) (empty n)) .reached ∷ map (reachedFrom e) (flat (K .events))
     unfolding rowsAt
     all-rows =
-        rows ∙ ap (map (λ (c : Cut). (run S T (suc e) c) .reached)) starts-cuts
-        ∙ ap (λ (l : List (Option Cut)). (run S T (suc e) (empty n)) .reached ∷ l) (map-map (λ (c : Cut). (run S T (suc e) c) .reached) (λ (v : Event). v .clock) (flat (K .events)))
+        rows ∙ ap₂ (λ (m : ℕ) (l : List (Option Cut)). (run S T (suc e) (empty m)) .reached ∷ l) stationed (map-map (λ (c : Cut). (run S T (suc e) c) .reached) (λ (v : Event). v .clock) (flat (K .events)))
 
     least-is : decoded (take n w) ≡ (start K S T (empty n)) .reached
     unfolding start
     least-is =
         let h : decoded (take n w) ≡ (run S T (suc e) (empty n)) .reached = cc all-rows in
-        h ∙ ap (λ (m : ℕ). (run S T (suc m) (empty n)) .reached) (sym (s .counted))
+        h ∙ ap (λ (m : ℕ). (run S T (suc m) (empty n)) .reached) (sym counted)
 
     rows-are : stationsAt n (full K) (drop n w) ≡ map (map (λ (v : Event). (start K S T (v .clock)) .reached)) (K .events)
     unfolding start
@@ -113,8 +129,8 @@ module _ (K : Computation) (n e : ℕ) (counts starts : List ℕ) (s : Starts K 
         let t : rowsAt n e (drop n w) ≡ map (reachedFrom e) (flat (K .events)) = cc all-rows in
         let f : Event → Option Cut = reachedFrom (eventCount K) in
         stations-pieces n (full K) (drop n w)
-        ∙ ap (λ (m : ℕ). pieces (full K) (rowsAt n m (drop n w))) (s .counted)
-        ∙ ap (pieces (full K)) (t ∙ ap (λ (m : ℕ). map (reachedFrom m) (flat (K .events))) (sym (s .counted)) ∙ sym (map-flat f (K .events)))
+        ∙ ap (λ (m : ℕ). pieces (full K) (rowsAt n m (drop n w))) counted
+        ∙ ap (pieces (full K)) (t ∙ ap (λ (m : ℕ). map (reachedFrom m) (flat (K .events))) (sym counted) ∙ sym (map-flat f (K .events)))
         ∙ ap (λ (l : List ℕ). pieces l (flat (map (map f) (K .events)))) (sym (same-lengths f (K .events)))
         ∙ pieces-flat (map (map f) (K .events))
 
@@ -122,15 +138,9 @@ module _ (K : Computation) (n e : ℕ) (counts starts : List ℕ) (s : Starts K 
     unfolding start roundsOfPair sum
     rounds-are =
         let g : Cut → ℕ = λ c. (run S T (suc e) c) .rounds in
-        sums ∙ ap (sum g) starts-cuts
-        ∙ ap (λ (x : ℕ). g (empty n) + x) (sum-map (λ (v : Event). v .clock) g (flat (K .events)) ∙ sum-flat (roundsFrom e) (K .events))
-        ∙ ap₂ (λ (m k : ℕ). (run S T (suc m) (empty k)) .rounds + sum (sum (roundsFrom m)) (K .events)) (sym (s .counted)) (sym (s .stationed))
+        sums
+        ∙ ap (λ (x : ℕ). g (empty (stations K)) + x) (sum-map (λ (v : Event). v .clock) g (flat (K .events)) ∙ sum-flat (roundsFrom e) (K .events))
+        ∙ ap (λ (m : ℕ). (run S T (suc m) (empty (stations K))) .rounds + sum (sum (roundsFrom m)) (K .events)) (sym counted)
 
     pub intersected : Intersected K S T n w r
     intersected = record { rounds = rounds-are; least = least-is; rows = rows-are }
-
--- The structure that was written, where its least cut is there.
-pub intersected-structure : {K : Computation} {S T : Structure} {n : ℕ} {w : List ℕ} {r : ℕ} → Intersected K S T n w r → (c : Cut) → decoded (take n w) ≡ some c → (bs : List ℕ)
-    → structureAt n (full K) w bs ≡ record { least = c; rows = map (map (λ (v : Event). (start K S T (v .clock)) .reached)) (K .events); bars = barsAt n 16 bs }
-intersected-structure {n = n} {w = w} i c e bs =
-    ap₂ (λ (l : Cut) (r : List (List (Option Cut))). record { least = l; rows = r; bars = barsAt n 16 bs }) (decoded-is (take n w) c e) (i .rows)

@@ -1,3 +1,2 @@
-pub mod Stations
 pub mod Said
 pub mod Pair

@@ -1,11 +1,16 @@
 -- What the code's answers for a round and for a start say in the rule's terms: a definition for each, by the cases of its enum.
+use mathlib.Core.Path.{_≡_}
 use Prim.Native.Nat.{ℕ}
-use mathlib.Core.Bool.{Bool, false, not}
+use mathlib.Core.Bool.{Bool, true, false}
 use mathlib.Core.List.{List}
 use mathlib.Core.Option.{Option, none, some}
-use lib.ListN.{take}
-use Rattle.model.specs.Cut.{Cut, inside}
+use Rattle.model.specs.Cut.{Cut, _⊑_}
+use Rattle.model.specs.Computation.{Computation}
+use Rattle.model.specs.Structure.{Structure, row}
 use Rattle.model.specs.Basis as rule
+use Rattle.lattice.proofs.Bases.{In, Good}
+use Rattle.lattice.proofs.Shortcuts.{came, later}
+use Rattle.slots.specs.Slots.{Small, Coded, Slots}
 use Rattle.rounds.specs.declared.Round.{Round}
 use Rattle.rounds.specs.declared.Round.the-variants as round
 use Rattle.rounds.specs.declared.RoundResult.{RoundResult}
@@ -13,29 +18,37 @@ use Rattle.rounds.specs.declared.Outcome.{Outcome}
 use Rattle.rounds.specs.declared.Outcome.the-variants as outcome
 use Rattle.rounds.specs.declared.Start.{Start}
 
--- The cut that a round came to, or none.
-unfoldable pub roundReached : ℕ → Round → List ℕ → Option Cut
-roundReached n (round.Raised changed) cut = some (take n cut)
-roundReached n round.Lost cut = none
+-- Two structures of a basis, as tables.
+pub record Both (K : Computation) (S T : Structure) (left right : List ℕ) : Type 0 where
+  pub small : Small K
+  pub good-left : Good K S
+  pub good-right : Good K T
+  pub slots-left : Slots K (row S) left
+  pub slots-right : Slots K (row T) right
 
-abbrev pub roundCut : ℕ → RoundResult → Option Cut
-roundCut n r = roundReached n (r .outcome) (r .cut)
+-- x is contained in o where o is there.
+abbrev pub Above : Cut → Option Cut → Type 0
+Above x o = (m : Cut) → o ≡ some m → x ⊑ m
 
--- Did the round change the cut?
-unfoldable pub roundChanged : Round → Bool
-roundChanged (round.Raised changed) = changed
-roundChanged round.Lost = false
+-- What a round that came to y says of its start, if `go` is what follows a cut that is not settled.
+unfoldable pub reading : (Cut → rule.Outcome) → Round → Bool → Cut → rule.Outcome
+reading go round.Lost settled y = came none 1
+reading go (round.Raised false) settled y = came (some y) 1
+reading go (round.Raised true) true y = came (some y) 2
+reading go (round.Raised true) false y = later (go y)
 
--- The same by the rule: c was raised to a cut that is not contained in it.
-unfoldable pub changes : Cut → Option Cut → Bool
-changes c none = false
-changes c (some d) = not (inside d c)
+-- A round's answer says F, which takes what follows a cut; the cut that it came to is one of the right set.
+pub record Answers (K : Computation) (T : Structure) (F : (Cut → rule.Outcome) → rule.Outcome) (r : RoundResult) : Type 0 where
+  pub cut : Cut
+  pub says : (go : Cut → rule.Outcome) → F go ≡ reading go (r .outcome) (r .settled) cut
+  pub is : (changed : Bool) → r .outcome ≡ round.Raised changed → Coded K cut (r .cut) × In K T cut
 
--- The cut that a start came to, or none.
-unfoldable pub startReached : ℕ → Outcome → List ℕ → Option Cut
-startReached n outcome.Raised cut = some (take n cut)
-startReached n outcome.Lost cut = none
+-- What a start came to.
+unfoldable pub Reached : Computation → Outcome → List ℕ → Option Cut → Type 0
+Reached K outcome.Raised cut o = (x : Cut) × (o ≡ some x) × Coded K x cut
+Reached K outcome.Lost cut o = o ≡ none
 
--- A start's outcome with its rounds.
-abbrev pub startOutcome : ℕ → Start → rule.Outcome
-startOutcome n r = record { reached = startReached n (r .outcome) (r .cut); rounds = r .rounds }
+-- A start's answer says the rule's outcome.
+pub record Ended (K : Computation) (o : rule.Outcome) (r : Start) : Type 0 where
+  pub rounds : r .rounds ≡ o .rounds
+  pub reached : Reached K (r .outcome) (r .cut) (o .reached)

@@ -2,6 +2,7 @@
 use Prim.Native.Nat.{ℕ, _+_}
 use mathlib.Core.Path.{refl, ap}
 use native.Mathlib.Omega.{arith}
+use Rattle.pairs.proofs.Room.{pair-small}
 use Rattle.basis.proofs.Operands as laws
 use borrow.Author.Needs.{needs}
 use Rattle.basis.proofs.combine.Statement.{statement}
@@ -23,6 +24,8 @@ pair-all-requires c κs =
 
 add-t19 : tie.Need-add-t19
 add-t19 c =
+    let s = c .before .before .before .before .before .before .before .before .before .before .before .before .before .before .before in
+    let m = pair-small (s .args .x .e) (omega (arith, s .pre .0 .few-events)) in
     omega (arith, c .before .before .before .before .before .pair-all .ensures .small, c .before .before .before .before .before .before .before .before .before .rounds-of .ensures, c .before .before .before .before .before .before .before .before .before .before .before .before .before .before .before .pre .1 .0)
 
 same-length : tie.Need-same-length

@@ -1,54 +1,41 @@
 -- `rounds::intersect` meets its contract: after i starts their rows stand, and their rounds are counted.
-use mathlib.Core.Path.{_≡_, sym, ap, _∙_}
-use Prim.Native.Nat.{ℕ, suc, _+_, _*_, _-_, _≤_, _<_}
+use mathlib.Core.Path.{_≡_, refl, sym, ap, _∙_}
+use Prim.Native.Nat.{ℕ, suc, _+_, _*_, _-_}
 use native.Mathlib.Numerals.{add-one}
 use native.Mathlib.Omega.{arith}
-use lib.ListN.{getD, take}
-use Rattle.cells.proofs.Parts.{cell-same}
-use Rattle.structure.proofs.Places.{cells-are, row-fits}
-use Rattle.rounds.proofs.Turn as laws
+use lib.ListN.{length}
+use Rattle.structure.proofs.Places.{row-fits}
+use Rattle.rounds.proofs.Turned as laws
 use borrow.Author.Needs.{needs}
 use Rattle.rounds.proofs.intersect.Statement.{statement}
 use Rattle.rounds.proofs.intersect.Tie as tie
 
 abbrev Inv-loop : tie.InvT-loop
-Inv-loop ws₀ a b out n e counts offs starts rounds₀ i₀ ws rounds i = laws.Turned n e a b out counts starts ws₀ i ws rounds
+Inv-loop ws₀ left right first n e code rounds₀ i₀ ws rounds i = (length ws ≡ length ws₀) × laws.Turned n e left right first code i ws rounds
 
 abbrev μ-loop : tie.MeasureT-loop
-μ-loop ws₀ a b out n e counts offs starts rounds₀ i₀ ws rounds i = e + 1 - i
+μ-loop ws₀ left right first n e code rounds₀ i₀ ws rounds i = e + 1 - i
 
 loop-holds : tie.Need-loop-holds Inv-loop μ-loop
-loop-holds c =
-    let a = c .before .before .args in
-    laws.turned-none (a .n) (a .e) (a .a) (a .b) (a .out) (a .counts .now) (a .starts .now) (a .ws .now)
+loop-holds c = let a = c .before .args in (refl, laws.turned-none (a .n) (a .e) (a .left .now) (a .right .now) (a .first .now) (a .code .now) (a .ws .now))
 
-next-start-requires : tie.Need-next-start-requires Inv-loop μ-loop
-next-start-requires c κs =
+one-start-requires : tie.Need-one-start-requires Inv-loop μ-loop
+one-start-requires c κs = search needs
+
+mul-put-start : tie.Need-mul-put-start Inv-loop μ-loop
+mul-put-start c = let s = c .before .before .before .before .before in omega (arith, row-fits (c .before .before .before .loop .i) (s .args .e) (s .args .n) (c .before .before .loop-test .taken), s .pre .1 .3)
+
+put-start-requires : tie.Need-put-start-requires Inv-loop μ-loop
+put-start-requires c κs =
     let s = c .before .before .before .before .before in
-    let a = s .args in
-    let l = c .before .before .loop in
-    let z = cells-are (a .n) (a .e) (take (a .n) (a .counts .now)) (s .pre .1 .0 .0) in
-    let d : a .n ≤ (a .e + 1) * a .n = omega (arith, row-fits 0 (a .e) (a .n) (omega arith)) in
-    let n0 : 0 < a .n = s .pre .0 .some-station in
-    let p = s .pre .1 .1 .0 in
-    let q = s .pre .1 .1 .1 in
-    let ka : getD (l .ws) (a .a) 0 ≡ getD (a .ws .now) (a .a) 0 = cell-same (a .out) (l .ws) (a .ws .now) (l .inv .before) (a .a) (omega (arith, p .0)) in
-    let kb : getD (l .ws) (a .b) 0 ≡ getD (a .ws .now) (a .b) 0 = cell-same (a .out) (l .ws) (a .ws .now) (l .inv .before) (a .b) (omega (arith, p .2)) in (
-      s .pre .0,
-      (
-        (omega (arith, z, p .0, q .0, l .inv .long), λ g. p .1 (sym ka ∙ g)),
-        (
-          (omega (arith, z, p .2, q .0, l .inv .long), λ g. p .3 (sym kb ∙ g)),
-          (s .pre .1 .0 .1, c .before .loop-test .taken, omega (arith, q .0, l .inv .long), q .1),
-        ),
-      ),
-    )
+    let l = c .before .before .before .loop in
+    (s .pre .1 .0, s .pre .1 .1, omega (arith, row-fits (l .i) (s .args .e) (s .args .n) (c .before .before .loop-test .taken), s .pre .1 .3, l .inv .0), s .pre .0 .3, c .before .one-start .ensures .1 .1)
 
 add-rounds : tie.Need-add-rounds Inv-loop μ-loop
 add-rounds c =
-    let s = c .before .before .before .before .before .before .before .before in
-    let l = c .before .before .before .before .before .loop in
-    omega (arith, laws.few-rounds (l .i) (s .args .e) (l .rounds) (c .before .before .before .before .loop-test .taken) (s .pre .1 .0 .1) (l .inv .few), c .before .before .next-start .ensures .1)
+    let s = c .before .before .before .before .before .before .before .before .before in
+    let l = c .before .before .before .before .before .before .before .loop in
+    omega (arith, laws.few-rounds (l .i) (s .args .e) (l .rounds) (c .before .before .before .before .before .before .loop-test .taken) (s .pre .1 .2) (l .inv .1 .few), c .before .before .before .before .before .one-start .ensures .1 .0, s .pre .1 .2)
 
 add-i : tie.Need-add-i Inv-loop μ-loop
 add-i c = search needs
@@ -58,26 +45,23 @@ loop-less c = search needs
 
 loop-again : tie.Need-loop-again Inv-loop μ-loop
 loop-again c =
-    let s = c .before .before .before .before .before .before .before .before in
+    let s = c .before .before .before .before .before .before .before .before .before in
     let a = s .args in
-    let l = c .before .before .before .before .before .loop in
-    let z = cells-are (a .n) (a .e) (take (a .n) (a .counts .now)) (s .pre .1 .0 .0) in
-    let p = s .pre .1 .1 .0 in
-    let w = c .before .before .next-start in
-    laws.turned-more (a .n) (a .e) (a .a) (a .b) (a .out) (a .counts .now) (a .starts .now) (a .ws .now) (omega (arith, z, p .0)) (omega (arith, z, p .2)) (l .i) (l .ws) (l .rounds) (l .inv)
-    (c .before .before .before .before .loop-test .taken) (w .last .0) (w .result) (w .kept .0) (w .ensures .1) (w .ensures .0)
+    let l = c .before .before .before .before .before .before .before .loop in
+    let r = c .before .before .before .before .before .one-start in
+    let w = c .before .before .before .put-start in
+    (w .kept .0 ∙ l .inv .0, laws.turned-more (a .n) (a .e) (a .left .now) (a .right .now) (a .first .now) (a .code .now) (l .i) (l .ws) (w .last .0) (l .rounds) (r .result) (l .inv .1) (c .before .before .before .before .before .before .loop-test .taken) (w .ensures .1) (r .ensures .1 .0) (r .ensures .0) (w .ensures .0))
 
 same-length : tie.Need-same-length Inv-loop μ-loop
-same-length c = c .before .loop .inv .long
+same-length c = search needs
 
 returns : tie.Need-returns Inv-loop μ-loop
 returns c =
-    let s = c .before .before .before .before in
-    let a = s .args in
+    let a = c .before .before .before .args in
     let l = c .before .loop in
-    let q : l .i ≡ suc (a .e) = omega (arith, l .inv .in-range) in (
-      λ K bs bt t. laws.turned-all (a .n) (a .e) (a .a) (a .b) (a .out) (a .counts .now) (a .starts .now) (a .ws .now) (l .i) (l .ws) (l .rounds) (l .inv) q K bs bt t,
-      (omega (arith, l .inv .few, ap (λ (x : ℕ). x * (a .e + 1)) (q ∙ sym (add-one (a .e)))), l .inv .before, l .inv .behind),
+    let q : l .i ≡ suc (a .e) = omega (arith, l .inv .1 .in-range, c .loop-test .left) in (
+      λ K S T k. laws.turned-all (a .n) (a .e) (a .left .now) (a .right .now) (a .first .now) (a .code .now) (l .i) (l .ws) (l .rounds) q (l .inv .1) K S T k,
+      omega (arith, l .inv .1 .few, ap (λ (x : ℕ). x * (a .e + 2)) (q ∙ sym (add-one (a .e)))),
     )
 
 pub intersect-spec : {M : Type 1} → statement M
@@ -87,7 +71,9 @@ intersect-spec =
     Inv-loop
     μ-loop
     loop-holds
-    next-start-requires
+    one-start-requires
+    mul-put-start
+    put-start-requires
     add-rounds
     add-i
     loop-less

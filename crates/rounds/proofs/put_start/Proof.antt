@@ -1,8 +1,8 @@
 -- `rounds::put_start` meets its contract: the cells written are the start's cut, or say none.
+use mathlib.Core.Path.{_∙_, sym}
 use native.Mathlib.Omega.{arith}
-use lib.ListN.{replicate}
-use Rattle.rounds.specs.Said.{startReached}
-use Rattle.rounds.proofs.Turn as laws
+use lib.Seq.{take-set-le}
+use Rattle.rounds.proofs.Turns as laws
 use borrow.Author.Needs.{needs}
 use Rattle.rounds.proofs.put_start.Statement.{statement}
 use Rattle.rounds.proofs.put_start.Tie as tie
@@ -10,51 +10,45 @@ use Rattle.rounds.proofs.put_start.Tie as tie
 enum-told : tie.Need-enum-told
 enum-told c = search needs
 
-slice-aggregate-copy : tie.Need-slice-aggregate-copy
-slice-aggregate-copy c = search needs
-
-copy-requires : tie.Need-copy-requires
-copy-requires c κs = search needs
+put-counts-requires : tie.Need-put-counts-requires
+put-counts-requires c κs = search needs
 
 enum-told-2 : tie.Need-enum-told-2
 enum-told-2 c = search needs
 
-slice-aggregate-copy-2 : tie.Need-slice-aggregate-copy-2
-slice-aggregate-copy-2 c = search needs
-
-copy-requires-2 : tie.Need-copy-requires-2
-copy-requires-2 c κs = search needs
+slice-write-ws : tie.Need-slice-write-ws
+slice-write-ws c = search needs
 
 same-length : tie.Need-same-length
 same-length c = search needs
 
 returns : tie.Need-returns
 returns c =
-    let s = c .before .before .before .before .before .before .before .before .before in
-    let a = s .args in
-    let d = laws.raised-row (a .n) (a .r .outcome) (a .r .cut) (s .pre .0) (c .before .before .before .before .before .enum-told .given .1) (s .pre .4) in
-    laws.row-written (a .n) (a .at) (a .ws .now) (c .before .before .copy .last .0) (a .r .cut) (startReached (a .n) (a .r .outcome) (a .r .cut)) (s .pre .2) (omega (arith, s .pre .1, s .pre .3)) (c .before .before .copy .ensures) d
+    let a = c .before .before .before .before .before .before .before .before .before .args in
+    let w = c .before .before .put-counts in (
+      λ K o m p f h. let v = laws.reached-some K (a .r .outcome) (a .r .cut) o (c .before .before .before .before .before .enum-told .given .1) h in w .ensures .0 K (v .0) m p f (v .2) ∙ sym (v .1),
+      w .ensures .1,
+    )
 
 same-length-2 : tie.Need-same-length-2
 same-length-2 c = search needs
 
 returns-2 : tie.Need-returns-2
 returns-2 c =
-    let s = c .before .before .before .before .before .before .before .before .before in
-    let a = s .args in
-    let d = laws.lost-row (a .n) (a .r .outcome) (a .r .cut) (s .pre .0) (c .before .before .before .before .before .enum-told2 .given .1) in
-    laws.row-written (a .n) (a .at) (a .ws .now) (c .before .before .copy2 .last .0) (replicate 8 255) (startReached (a .n) (a .r .outcome) (a .r .cut)) (s .pre .2) (s .pre .1) (c .before .before .copy2 .ensures) d
+    let s = c .before .before .before .before in
+    let a = s .args in (
+      λ K o m p f h. laws.none-put (a .ws .now) (a .at) (a .n) (s .pre .0) (omega (arith, s .pre .0, s .pre .2)) ∙ sym (laws.reached-none K (a .r .outcome) (a .r .cut) o (c .enum-told2 .given .1) h),
+      take-set-le (a .at) (a .ws .now) (a .at) 255 (omega arith),
+    )
 
 pub put-start-spec : {M : Type 1} → statement M
 put-start-spec =
     tie.close
     (tie.spec
     enum-told
-    slice-aggregate-copy
-    copy-requires
+    put-counts-requires
     enum-told-2
-    slice-aggregate-copy-2
-    copy-requires-2
+    slice-write-ws
     same-length
     returns
     same-length-2
