@@ -1,14 +1,16 @@
 // Prints the basis of each question of the logs of standard input: for each structure its least cut, its greatest cut and its bars.
 // A log is closed by a line with a full stop; so is what is printed for it.
+use model::Log;
+use structure::Shape;
 ghost use mathlib.Core.Path.{_≡_};
 ghost use mathlib.Core.List.{List};
 ghost use Prim.Native.Nat.{ℕ, _+_, _*_, _≤_, _<_};
 ghost use lib.ListN.{length};
-ghost use Rattle.model.specs.Limits.{limits};
+ghost use Rattle.model.specs.Limits.{limits, storeSize, workspaceSize, barspaceSize};
 ghost use Rattle.model.specs.Formula.{Formula};
 ghost use Rattle.model.specs.Computation.{Computation};
 ghost use Rattle.load.specs.Loading.{Accepts};
-ghost use Rattle.verdict.specs.Questions.{Question};
+ghost use Rattle.verdict.specs.Questions.{Question, cellsHeld};
 ghost use Rattle.finder.specs.Prepared.{Prepared};
 
 // A name and a number, on a line.
@@ -24,7 +26,7 @@ fn print_cut(name: &[u8], cut: &[u8]) {
     io::write_all(1, name);
     let mut i = 0;
     while i < cut.len() {
-        trial::print_number(structure::wide(cut[i]));
+        trial::print_number(cells::wide(cut[i]));
         i += 1;
     }
     io::write_all(1, b"\n");
@@ -32,12 +34,12 @@ fn print_cut(name: &[u8], cut: &[u8]) {
 
 // The bars at a place.
 fn print_bars(bs: &[u8], at: usize, n: usize)
-    requires { ⌜ (0 < n) × (n ≤ 8) × (at + 16 * n ≤ length (now bs)) ⌝ }
+    requires { ⌜ (0 < n) × (n ≤ limits .stations) × (at + 16 * n ≤ length (now bs)) ⌝ }
 {
     let mut i = 0;
     while i < 16 {
         let from = at + i * n;
-        if bs[from] == structure::NONE {
+        if bs[from] == cells::NONE {
             return;
         }
         print_cut(b"bar", &bs[from..from + n]);
@@ -47,7 +49,7 @@ fn print_bars(bs: &[u8], at: usize, n: usize)
 
 // The structure at a place of the workspace, with its bars.
 fn print_structure(ws: &[u8], at: usize, bs: &[u8], bar: usize, n: usize, e: usize)
-    requires { ⌜ (0 < n) × (n ≤ 8) × (e ≤ 127) × (at + (e + 1) * n ≤ length (now ws)) × (bar + 16 * n ≤ length (now bs)) ⌝ }
+    requires { ⌜ (0 < n) × (n ≤ limits .stations) × (e ≤ limits .events) × (at + (e + 1) * n ≤ length (now ws)) × (bar + 16 * n ≤ length (now bs)) ⌝ }
 {
     print_cut(b"least", &ws[at..at + n]);
     let mut greatest = [0u8; 8];
@@ -58,7 +60,7 @@ fn print_structure(ws: &[u8], at: usize, bs: &[u8], bar: usize, n: usize, e: usi
 
 // The structures at the front of the workspace.
 fn print_structures(ws: &[u8], bs: &[u8], count: usize, n: usize, e: usize)
-    requires { ⌜ (0 < n) × (n ≤ 8) × (e ≤ 127) × (count ≤ 16) × (count * ((e + 1) * n) ≤ length (now ws)) × (count * (16 * n) ≤ length (now bs)) ⌝ }
+    requires { ⌜ (0 < n) × (n ≤ limits .stations) × (e ≤ limits .events) × (count ≤ 16) × (count * ((e + 1) * n) ≤ length (now ws)) × (count * (16 * n) ≤ length (now bs)) ⌝ }
 {
     let size = (e + 1) * n;
     let slot = 16 * n;
@@ -70,21 +72,13 @@ fn print_structures(ws: &[u8], bs: &[u8], count: usize, n: usize, e: usize)
 }
 
 // The basis of one question, and its rounds.
-fn print_basis(
-    q: &[u8],
-    n: usize,
-    e: usize,
-    counts: &[u8; 8],
-    offs: &[u8; 8],
-    starts: &[u8],
-    values: &[u16],
-    ws: &mut [u8],
-    bs: &mut [u8],
-)
-    requires { ⌜ ((K : Computation) × (f : Formula) × Question K f (now q) n e (now counts) (now offs) (now starts) (now values)) ⌝ }
-    requires { ⌜ (65536 ≤ length (now ws)) × (8192 ≤ length (now bs)) ⌝ }
+fn print_basis(q: &[u8], x: Shape, starts: &[u8], facts: &[u16], ws: &mut [u8], bs: &mut [u8])
+    requires { ⌜ ((K : Computation) × (f : Formula) × Question K f (now q) x (now starts) (now facts) × (cellsHeld f x ≤ length (now ws))) ⌝ }
+    requires { ⌜ barspaceSize ≤ length (now bs) ⌝ }
 {
-    let basis = basis::basis_true(q, ws, bs, n, e, counts, offs, starts, values);
+    let n = x.n;
+    let e = x.e;
+    let basis = basis::basis_true(q, ws, bs, x, starts, facts);
     let count = basis.count;
     print_count(b"structures", count as u64);
     print_structures(ws, bs, count, n, e);
@@ -94,47 +88,48 @@ fn print_basis(
 // The bases of all questions of a log that is laid out.
 fn print_questions(
     list: &[u8],
-    k: usize,
-    s: frame::State,
-    offs: &[u8; 8],
+    loaded: load::Loaded,
+    x: Shape,
     starts: &[u8],
-    values: &[u16],
+    facts: &[u16],
     ws: &mut [u8],
     bs: &mut [u8],
 )
-    requires { ⌜ (k ≤ length (now list)) × (65536 ≤ length (now ws)) × (8192 ≤ length (now bs)) ⌝ }
-    requires { ⌜ Prepared s k (now list) (now offs) (now starts) (now values) ⌝ }
+    requires { ⌜ (loaded .length ≤ length (now list)) × (workspaceSize ≤ length (now ws)) × (barspaceSize ≤ length (now bs)) ⌝ }
+    requires { ⌜ Prepared (loaded .state) (loaded .length) (now list) x (now starts) (now facts) ⌝ }
 {
-    let n = s.stations;
-    let e = s.events;
-    let counts = s.counts;
+    let s = loaded.state;
+    let k = loaded.length;
     let mut i = 0;
     while i < s.questions {
         let q = verdict::frames::question_at(list, k, s.first_question() + i);
-        print_basis(q, n, e, &counts, offs, starts, values, ws, bs);
+        print_basis(q, x, starts, facts, ws, bs);
         i += 1;
     }
 }
 
 // The same for a log that is loaded.
-fn print_loaded(list: &[u8], k: usize, table: &[u8], s: frame::State)
-    requires { ⌜ (k ≤ length (now list)) × (length (now table) ≡ 10240) ⌝ }
-    requires { ⌜ ((log : List ℕ) × Accepts limits log s k (now list) (now table)) ⌝ }
+fn print_loaded(list: &[u8], store: &[u8], loaded: load::Loaded)
+    requires { ⌜ (loaded .length ≤ length (now list)) × (length (now store) ≡ storeSize) ⌝ }
+    requires { ⌜ ((log : List ℕ) × Accepts limits log (loaded .state) (loaded .length) (now list) (now store)) ⌝ }
 {
+    let s = loaded.state;
+    let n = s.stations;
+    let e = s.events;
     let counts = s.counts;
-    let mut starts = [0u8; 1024];
-    let mut values = [0u16; 135];
-    let offs = layout::lay(table, s.stations, &counts, &mut starts, &mut values);
-    let mut ws = [0u8; finder::WORKSPACE];
-    let mut bs = [0u8; finder::BARSPACE];
-    print_questions(list, k, s, &offs, &starts, &values, &mut ws, &mut bs);
+    let mut starts = [0u8; Log::STARTS];
+    let mut facts = [0u16; Log::FACTS];
+    let x = layout::lay(store, n, e, counts, &mut starts, &mut facts);
+    let mut ws = [0u8; Log::WORKSPACE];
+    let mut bs = [0u8; Log::BARSPACE];
+    print_questions(list, loaded, x, &starts, &facts, &mut ws, &mut bs);
 }
 
 // The bases of a log, or its refusal.
 fn print_log(log: &[u8]) {
-    let mut list = [0u8; model::Log::LIST];
-    let mut table = [0u8; model::Log::STORE];
-    let loaded = load::load(model::Log::limits(), log, &mut list, &mut table);
+    let mut list = [0u8; Log::LIST];
+    let mut store = [0u8; Log::STORE];
+    let loaded = load::load(Log::limits(), log, &mut list, &mut store);
     let outcome = loaded.outcome;
     match outcome {
         load::Acceptance::Refused(refusal) => {
@@ -142,8 +137,7 @@ fn print_log(log: &[u8]) {
             io::write_all(1, b"\n");
         }
         load::Acceptance::Accepted => {
-            let s = loaded.state;
-            print_loaded(&list, loaded.length, &table, s);
+            print_loaded(&list, &store, loaded);
         }
     }
     io::write_all(1, b".\n");

@@ -1,4 +1,4 @@
--- A refusal names a line of the log: at most 8,193.
+-- A refusal names a line of the log: at most one more than a log has bytes.
 use mathlib.Core.Path.{_≡_, refl}
 use mathlib.Core.Bool.{Bool, true, false, cond}
 use mathlib.Core.List.{List, [], _∷_}
@@ -44,10 +44,10 @@ refused-item n r (frame f ∷ l) k i h e = by (admit limits r f) (λ s. refused-
     by (go s) on e = omega (arith, on s e)
     by (fault j) on e = let z : n ≡ i = cc in omega arith
 
-pub refused-line : (log : List ℕ) (k n : ℕ) → readLog limits log ≡ refused k n → n ≤ 8193
+pub refused-line : (log : List ℕ) (k n : ℕ) → readLog limits log ≡ refused k n → n ≤ suc (limits .bytes)
 unfolding readLog
-refused-line log k n e = by (leb (length log) 8192) refl e
+refused-line log k n e = by (leb (length log) (limits .bytes)) refl e
   where
-    by : (t : Bool) → leb (length log) 8192 ≡ t → cond t (readItems limits 1 nothing (items (linesOf log))) (refused 1 0) ≡ refused k n → n ≤ 8193
-    by true h e = omega (arith, refused-item 1 nothing (items (linesOf log)) k n (omega arith) e, length-items log, leb-true (length log) 8192 h)
+    by : (t : Bool) → leb (length log) (limits .bytes) ≡ t → cond t (readItems limits 1 nothing (items (linesOf log))) (refused 1 0) ≡ refused k n → n ≤ suc (limits .bytes)
+    by true h e = omega (arith, refused-item 1 nothing (items (linesOf log)) k n (omega arith) e, length-items log, leb-true (length log) (limits .bytes) h)
     by false h e = let z : 0 ≡ n = cc in omega arith

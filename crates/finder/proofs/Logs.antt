@@ -5,10 +5,12 @@ use mathlib.Core.List.{List, [], _∷_}
 use mathlib.Core.Option.{none, some}
 use Prim.Native.Nat.{ℕ, zero, suc, _+_, _≤_, _<_}
 use native.Mathlib.Omega.{arith}
+use native.Mathlib.Numerals.{add-one}
+use native.Mathlib.Nat.{le-trans}
 use lib.ListN.{length, take, getD, getElem?, length-map, List·getD-map}
 use lib.Seq.{ext-getD, getD-take, length-take-le}
 use Rattle.model.specs.declared.Limits.{Limits}
-use Rattle.model.specs.Limits.{limits}
+use Rattle.model.specs.Limits.{limits, workspaceSize}
 use Rattle.model.specs.Lists.{total}
 use Rattle.model.specs.Formula.{Formula}
 use Rattle.model.specs.Cut.{Cut}
@@ -17,7 +19,6 @@ use Rattle.model.specs.Reading.{refused, readLog}
 use Rattle.model.specs.declared.Refusal.{Refusal}
 use Rattle.model.specs.Reply.{number}
 use Rattle.model.specs.Promise.{Asked}
-use Rattle.lattice.proofs.Clocks.{entry-≤}
 use Rattle.lattice.proofs.Consistency.{consistent-iff}
 use Rattle.lattice.proofs.Lists.{all-at}
 use Rattle.codec.proofs.Bytes.{Bytes, bytes-tail}
@@ -25,7 +26,9 @@ use Rattle.codec.proofs.Formulas.{prefix-formula}
 use Rattle.codec.proofs.Lawful.{Lawful}
 use Rattle.codec.proofs.QuestionFrames.{questionFrames, question-spelt}
 use Rattle.codec.proofs.Readings.{log-are-frames}
-use Rattle.structure.specs.Laid.{Laid}
+use Rattle.lattice.proofs.Held.{workspace-fits}
+use Rattle.structure.specs.declared.Shape.{Shape}
+use Rattle.basis.specs.Contract.{Given}
 use Rattle.frame.specs.declared.State.{State}
 use Rattle.frame.specs.State.{firstQuestion}
 use Rattle.load.specs.declared.Acceptance.{Acceptance}
@@ -34,7 +37,7 @@ use Rattle.load.specs.Loading.{Accepts, Loads}
 use Rattle.load.proofs.Loads as load
 use Rattle.load.proofs.Questions.{good, question-frame}
 use Rattle.layout.specs.Loaded.{Loaded}
-use Rattle.verdict.specs.Questions.{Asks, Question}
+use Rattle.verdict.specs.Questions.{Asks, Question, cellsHeld}
 
 -- There is a question at each number below their count, and none from there on.
 
@@ -66,13 +69,8 @@ module _ {log : List ℕ} {s : State} {k : ℕ} {list t : List ℕ} (a : Accepts
 
   -- THE COMPUTATION
 
-  pub loaded : Loaded (a .reading .computation) (s .stations) (s .events) (s .counts) t
-  loaded = record {
-    stored = a .holds .stored;
-    sizes = a .holds .sizes;
-    events = sym (a .holds .events);
-    within = λ j m i h. entry-≤ (a .reading .computation) (law .valid) j (suc m) i;
-  }
+  pub loaded : Loaded (a .reading .computation) (s .stations) (s .counts) t
+  loaded = record { stored = a .holds .stored; valid = law .valid }
 
   counts-full : take (s .stations) (s .counts) ≡ full (a .reading .computation)
   counts-full =
@@ -82,8 +80,8 @@ module _ {log : List ℕ} {s : State} {k : ℕ} {list t : List ℕ} (a : Accepts
       ext-getD 0 (take (s .stations) (s .counts)) (full K) (x ∙ sym y) (λ i h.
       getD-take (s .stations) (s .counts) i 0 (omega arith) ∙ a .holds .stored .each i ∙ sym (List·getD-map length (K .events) i []))
 
-  pub counts-few : total (take (s .stations) (s .counts)) ≤ limits .events
-  counts-few = omega (arith, ap total counts-full, law .few-events)
+  pub counts-total : total (take (s .stations) (s .counts)) ≡ s .events
+  counts-total = ap total counts-full ∙ sym (a .holds .events)
 
   -- A consistent cut has a count for each station.
   pub cut-size : (c : Cut) → isConsistent (a .reading .computation) c ≡ true → length c ≡ s .stations
@@ -113,20 +111,22 @@ module _ {log : List ℕ} {s : State} {k : ℕ} {list t : List ℕ} (a : Accepts
     pub is-asked : Asked limits log q (a .reading .computation) f
     is-asked = record { frames = a .reading .frames; questions = a .reading .questions; reads = a .is; is = is }
 
-    pub question : {offs starts values : List ℕ} (bytes : List ℕ) → bytes ≡ asked q → q < s .questions
-        → Laid (a .reading .computation) (s .stations) (s .events) (s .counts) offs starts values
-        → Question (a .reading .computation) f bytes (s .stations) (s .events) (s .counts) offs starts values
+    pub question : {x : Shape} {starts facts : List ℕ} (bytes : List ℕ) → bytes ≡ asked q → q < s .questions
+        → Given (a .reading .computation) x starts facts → Question (a .reading .computation) f bytes x starts facts
     question bytes e h laid = record {
       laid = laid;
       spells = e ∙ sym (prefix-formula (asked q) f (asked-bytes q h) (question-spelt (law .framed) q ∙ is) .0);
-      named = rw (a .holds .stored .size) at (law .good q f is .0);
+      named = rw (laid .0 .stationed) at (law .good q f is .0);
       fitting = law .good q f is .1;
     }
 
-  -- There is such a question.
-  pub posed : {offs starts values : List ℕ} (q : ℕ) (bytes : List ℕ) → bytes ≡ asked q → q < s .questions
-      → Laid (a .reading .computation) (s .stations) (s .events) (s .counts) offs starts values
-      → (K : Computation) × (f : Formula) × Question K f bytes (s .stations) (s .events) (s .counts) offs starts values
-  posed q bytes e h laid =
+  -- There is such a question, and room to work it out.
+  pub posed : {x : Shape} {starts facts : List ℕ} (q : ℕ) (bytes : List ℕ) → bytes ≡ asked q → q < s .questions → (m : ℕ) → workspaceSize ≤ m
+      → Given (a .reading .computation) x starts facts
+      → (K : Computation) × (f : Formula) × Question K f bytes x starts facts × (cellsHeld f x ≤ m)
+  posed {x = x} q bytes e h m room laid =
       let there = question-there (a .reading .questions) q (omega (arith, question-count)) in
-      (a .reading .computation, there .0, question q (there .0) (there .1) bytes e h laid)
+      let g = question q (there .0) (there .1) bytes e h laid in
+      let few = laid .0 .shaped in
+      let cells : cellsHeld (there .0) x ≤ workspaceSize = rw (add-one (x .e)) (workspace-fits (there .0) (g .fitting) (x .n) (x .e) (few .few-stations) (few .few-events)) in
+      (a .reading .computation, there .0, g, le-trans cells room)

@@ -9,7 +9,8 @@ use native.Mathlib.Numerals.{add-one}
 use lib.ListN.{length, take, drop, getElem?, length-append, length-drop}
 use lib.Seq.{take-at, drop-at, take-all, drop-drop}
 use borrow.Rule.Slice.PartMut.{putMid}
-use Rattle.model.specs.Limits.{printLimits}
+use Rattle.model.specs.Limits.{printLimits, lineSize}
+use Rattle.structure.specs.declared.Shape.{Shape}
 use Rattle.model.specs.Formula.{Formula}
 use Rattle.model.specs.Computation.{Computation}
 use Rattle.model.specs.Answer.{answer, answerLine, refusalLine}
@@ -20,7 +21,7 @@ use Rattle.codec.proofs.Demands.{asked-line-fits}
 use Rattle.codec.proofs.Input.{printed-first}
 use Rattle.frame.specs.State.{firstQuestion}
 use Rattle.frame.specs.declared.State.{State}
-use Rattle.structure.proofs.Parts.{put-end}
+use Rattle.cells.proofs.Parts.{put-end}
 use Rattle.report.specs.Written.{Written}
 use Rattle.verdict.specs.Questions.{Asks, Question}
 use Rattle.finder.specs.Prepared.{Prepared}
@@ -58,36 +59,36 @@ line-behind l line was out part end r h w v =
 -- THE LINES OF A LOADED LOG
 
 -- The lines to the first i questions stand at the front of the output, and end at `end`.
-pub record Printing (s : State) (k : ℕ) (list offs starts values was out : List ℕ) (end i : ℕ) : Type 0 where
-  pub is : (p : Prepared s k list offs starts values) → Written (answerLines (p .accepts .reading .computation) (take i (p .accepts .reading .questions))) end was out
+pub record Printing (s : State) (k : ℕ) (list : List ℕ) (x : Shape) (starts facts was out : List ℕ) (end i : ℕ) : Type 0 where
+  pub is : (p : Prepared s k list x starts facts) → Written (answerLines (p .accepts .reading .computation) (take i (p .accepts .reading .questions))) end was out
 
-pub printing-none : (s : State) (k : ℕ) (list offs starts values was : List ℕ) → Printing s k list offs starts values was was 0 0
+pub printing-none : (s : State) (k : ℕ) (list : List ℕ) (x : Shape) (starts facts was : List ℕ) → Printing s k list x starts facts was was 0 0
 unfolding answerLines
-printing-none s k list offs starts values was = record { is = λ p. record { size = refl; front = refl } }
+printing-none s k list x starts facts was = record { is = λ p. record { size = refl; front = refl } }
 
-module _ {s : State} {k : ℕ} {list offs starts values : List ℕ} (out : List ℕ) (end i : ℕ) (h : i < s .questions) (inside : end ≤ length out)
+module _ {s : State} {k : ℕ} {list : List ℕ} {x : Shape} {starts facts : List ℕ} (out : List ℕ) (end i : ℕ) (h : i < s .questions) (inside : end ≤ length out)
     (first : ℕ) (begins : first ≡ firstQuestion s) (bytes : List ℕ) (found : (q : List ℕ) → Asks list k (first + i) q → bytes ≡ q) (r : ℕ) (part : List ℕ)
-    (put : (K : Computation) (f : Formula) → Question K f bytes (s .stations) (s .events) (s .counts) offs starts values → Written (answerLine (answer K f)) r (take (length out - end) (drop end out)) part) where
-  there : (p : Prepared s k list offs starts values) → (f : Formula) × (getElem? (p .accepts .reading .questions) i ≡ some f)
+    (put : (K : Computation) (f : Formula) → Question K f bytes x starts facts → Written (answerLine (answer K f)) r (take (length out - end) (drop end out)) part) where
+  there : (p : Prepared s k list x starts facts) → (f : Formula) × (getElem? (p .accepts .reading .questions) i ≡ some f)
   there p = question-there (p .accepts .reading .questions) i (omega (arith, question-count (p .accepts)))
 
-  written : (p : Prepared s k list offs starts values) → Written (answerLine (answer (p .accepts .reading .computation) (there p .0))) r (take (length out - end) (drop end out)) part
+  written : (p : Prepared s k list x starts facts) → Written (answerLine (answer (p .accepts .reading .computation) (there p .0))) r (take (length out - end) (drop end out)) part
   written p = put (p .accepts .reading .computation) (there p .0) (question (p .accepts) i (there p .0) (there p .1) bytes (found _ (asks-at (p .accepts) first begins i h)) h (p .laid))
 
-  -- One more line, of at most 273 bytes.
-  pub line-short : Prepared s k list offs starts values → r ≤ 273
+  -- One more line, within the size of a line.
+  pub line-short : Prepared s k list x starts facts → r ≤ lineSize
   line-short p = omega (arith, written p .size, asked-line-fits suitable (is-asked (p .accepts) i (there p .0) (there p .1)))
 
-  pub printing-more : {was : List ℕ} → Printing s k list offs starts values was out end i → Printing s k list offs starts values was (putMid end (length out - end) out part) (end + r) (i + 1)
+  pub printing-more : {was : List ℕ} → Printing s k list x starts facts was out end i → Printing s k list x starts facts was (putMid end (length out - end) out part) (end + r) (i + 1)
   printing-more {was} g = record {
     is = λ p.
-        subst (λ x. Written x (end + r) was (putMid end (length out - end) out part)) (sym (lines-more (p .accepts .reading .computation) (p .accepts .reading .questions) i (there p .0) (there p .1)))
+        subst (λ y. Written y (end + r) was (putMid end (length out - end) out part)) (sym (lines-more (p .accepts .reading .computation) (p .accepts .reading .questions) i (there p .0) (there p .1)))
         (line-behind _ _ was out part end r inside (g .is p) (written p));
   }
 
 -- At the end all questions are answered.
-pub printing-all : {s : State} {k : ℕ} {list offs starts values was out : List ℕ} {end i : ℕ} → Printing s k list offs starts values was out end i → s .questions ≤ i
-    → (p : Prepared s k list offs starts values) → Written (answerLines (p .accepts .reading .computation) (p .accepts .reading .questions)) end was out
+pub printing-all : {s : State} {k : ℕ} {list : List ℕ} {x : Shape} {starts facts was out : List ℕ} {end i : ℕ} → Printing s k list x starts facts was out end i → s .questions ≤ i
+    → (p : Prepared s k list x starts facts) → Written (answerLines (p .accepts .reading .computation) (p .accepts .reading .questions)) end was out
 printing-all {was = was} {out = out} {end = end} {i = i} g h p =
     subst (λ l. Written (answerLines (p .accepts .reading .computation) l) end was out) (take-all i (p .accepts .reading .questions) (omega (arith, question-count (p .accepts)))) (g .is p)
 

@@ -9,7 +9,7 @@ use lib.ListN.{length, take, drop, getElem?}
 use lib.Dec.{ltb}
 use lib.Seq.{take-at}
 use borrow.Author.Tests.{ltb-false, lt-ltb, le-ltb}
-use Rattle.model.specs.Limits.{limits}
+use Rattle.model.specs.Limits.{limits, workspaceSize, barspaceSize, lineSize}
 use Rattle.model.specs.Formula.{Formula}
 use Rattle.model.specs.Cut.{Cut}
 use Rattle.model.specs.Computation.{Computation, Consistent, isConsistent}
@@ -24,13 +24,13 @@ use Rattle.codec.proofs.Demands.{asked-answered, asked-holds}
 use Rattle.finder.proofs.Logs.{no-question}
 
 -- There is room where the test for too little says no.
-pub roomy : (ws bs : ℕ) → cramped ws bs ≡ false → (65536 ≤ ws) × (8192 ≤ bs)
+pub roomy : (ws bs : ℕ) → cramped ws bs ≡ false → (workspaceSize ≤ ws) × (barspaceSize ≤ bs)
 unfolding cramped
-roomy ws bs e = by (ltb ws 65536) refl e
+roomy ws bs e = by (ltb ws workspaceSize) refl e
   where
-    by : (b : Bool) → ltb ws 65536 ≡ b → (b || ltb bs 8192) ≡ false → (65536 ≤ ws) × (8192 ≤ bs)
+    by : (b : Bool) → ltb ws workspaceSize ≡ b → (b || ltb bs barspaceSize) ≡ false → (workspaceSize ≤ ws) × (barspaceSize ≤ bs)
     by true h e = let z : _≡_ {A = ℕ} 0 1 = cc in absurd (omega arith)
-    by false h e = (ltb-false ws 65536 h, ltb-false bs 8192 e)
+    by false h e = (ltb-false ws workspaceSize h, ltb-false bs barspaceSize e)
 
 -- What was not touched is kept.
 kept : (reply : Reply) (l : List ℕ) → Kept reply l l
@@ -44,7 +44,7 @@ module _ (log : List ℕ) (q ws bs : ℕ) (out : List ℕ) where
   line-promised : (reply : Reply) (out′ : List ℕ) → reply ≡ (answerOp limits log q ws bs out) .reply → out′ ≡ (answerOp limits log q ws bs out) .output
       → (K : Computation) (f : Formula) → Asked limits log q K f → (m : ℕ) → reply ≡ gives (m ∷ []) → Answered K f (take m out′)
   unfolding answerOp answerEffect questionEffect lineEffect cramped
-  line-promised reply out′ e o K f a m g = by (ltb ws 65536 || ltb bs 8192) (ltb (length out) 273) (rw (a .reads, a .is))
+  line-promised reply out′ e o K f a m g = by (ltb ws workspaceSize || ltb bs barspaceSize) (ltb (length out) lineSize) (rw (a .reads, a .is))
     where
       l : List ℕ
       l = answerLine (answer K f)
@@ -81,14 +81,14 @@ module _ (log : List ℕ) (q ws bs : ℕ) (out : List ℕ) where
       unfolding answerOp answerEffect questionEffect
       answer-cramped h = rw (e, is, h)
 
-      pub answer-short : cramped ws bs ≡ false → length out < 273 → answerOp limits log q ws bs out ≡ refuse 12 0 out
+      pub answer-short : cramped ws bs ≡ false → length out < lineSize → answerOp limits log q ws bs out ≡ refuse 12 0 out
       unfolding answerOp answerEffect questionEffect lineEffect
-      answer-short h o = rw (e, is, h, lt-ltb (length out) 273 o)
+      answer-short h o = rw (e, is, h, lt-ltb (length out) lineSize o)
 
-      pub answer-line : cramped ws bs ≡ false → 273 ≤ length out
+      pub answer-line : cramped ws bs ≡ false → lineSize ≤ length out
           → answerOp limits log q ws bs out ≡ write (length (answerLine (answer (r .computation) f)) ∷ []) (answerLine (answer (r .computation) f)) out
       unfolding answerOp answerEffect questionEffect lineEffect
-      answer-line h o = rw (e, is, h, le-ltb (length out) 273 o)
+      answer-line h o = rw (e, is, h, le-ltb (length out) lineSize o)
 
 -- All that is promised of Answer: its reply, the output, workspace and bar space, and demand 3. (Where a line was written, nothing is promised of the last two.)
 abbrev pub Met : List ℕ → ℕ → List ℕ → List ℕ → List ℕ → Reply → List ℕ → List ℕ → List ℕ → Type 0
@@ -143,11 +143,11 @@ abbrev pub Told : List ℕ → ℕ → Cut → List ℕ → List ℕ → Reply �
 Told log q c ws bs reply ws′ bs′ =
     (reply ≡ holdsOp limits log q c (length ws) (length bs))
     × ((Kept reply ws ws′ × Kept reply bs bs′)
-    × ((K : Computation) (f : Formula) → Asked limits log q K f → Consistent K c → 65536 ≤ length ws → 8192 ≤ length bs → Tested K f c reply))
+    × ((K : Computation) (f : Formula) → Asked limits log q K f → Consistent K c → workspaceSize ≤ length ws → barspaceSize ≤ length bs → Tested K f c reply))
 
 module _ (log : List ℕ) (q : ℕ) (c : Cut) (ws bs : List ℕ) where
   cut-promised : (reply : Reply) → reply ≡ holdsOp limits log q c (length ws) (length bs)
-      → (K : Computation) (f : Formula) → Asked limits log q K f → Consistent K c → 65536 ≤ length ws → 8192 ≤ length bs → Tested K f c reply
+      → (K : Computation) (f : Formula) → Asked limits log q K f → Consistent K c → workspaceSize ≤ length ws → barspaceSize ≤ length bs → Tested K f c reply
   cut-promised reply e K f a p hw hb = rw e (asked-holds suitable a (length ws) (length bs) hw hb c p)
 
   pub told-refused : (reply : Reply) (k n : ℕ) → reply ≡ refuses k n → holdsOp limits log q c (length ws) (length bs) ≡ refuses k n → Told log q c ws bs reply ws bs

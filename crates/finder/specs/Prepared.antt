@@ -4,11 +4,12 @@ use mathlib.Core.List.{List}
 use Rattle.model.specs.Limits.{limits}
 use Rattle.frame.specs.declared.State.{State}
 use Rattle.load.specs.Loading.{Accepts}
-use Rattle.structure.specs.Laid.{Laid}
+use Rattle.structure.specs.declared.Shape.{Shape}
+use Rattle.basis.specs.Contract.{Given}
 
 -- A log was loaded into s and the first k bytes of list, and its computation is laid out.
-pub record Prepared (s : State) (k : ℕ) (list offs starts values : List ℕ) : Type 0 where
+pub record Prepared (s : State) (k : ℕ) (list : List ℕ) (x : Shape) (starts facts : List ℕ) : Type 0 where
   pub log : List ℕ
   pub table : List ℕ
   pub accepts : Accepts limits log s k list table
-  pub laid : Laid (accepts .reading .computation) (s .stations) (s .events) (s .counts) offs starts values
+  pub laid : Given (accepts .reading .computation) x starts facts

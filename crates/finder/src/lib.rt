@@ -1,4 +1,6 @@
 // The operations Answer and Holds, and all that the program prints.
+use model::Log;
+use structure::Shape;
 use verdict::frames::question_at;
 use verdict::question::put_line;
 use verdict::question::told;
@@ -8,7 +10,7 @@ ghost use mathlib.Core.List.{List, [], _∷_, _++_};
 ghost use mathlib.Core.Option.{some};
 ghost use Prim.Native.Nat.{ℕ, _≤_, _<_};
 ghost use lib.ListN.{length, take, drop, getElem?};
-ghost use Rattle.model.specs.Limits.{limits};
+ghost use Rattle.model.specs.Limits.{limits, storeSize, workspaceSize, barspaceSize, lineSize, printedSize};
 ghost use Rattle.model.specs.Formula.{Formula};
 ghost use Rattle.model.specs.Computation.{Computation, Consistent};
 ghost use Rattle.model.specs.Answer.{trueAt, answer, answerLine};
@@ -19,27 +21,20 @@ ghost use Rattle.report.specs.Written.{Written};
 ghost use Rattle.load.specs.Loading.{Accepts};
 ghost use Rattle.finder.specs.Prepared.{Prepared};
 
-// The cells of the workspace and of the bar space, and the bytes of the longest answer line.
-pub const WORKSPACE: usize = model::Log::WORKSPACE;
-
-pub const BARSPACE: usize = model::Log::BARSPACE;
-
-pub const LINE: usize = model::Log::LINE;
-
 // What the program asks for: one byte more than a log may have, so that it sees a log that is too long.
-pub const INPUT: usize = model::Log::BYTES + 1;
+pub const INPUT: usize = Log::BYTES + 1;
 
 // The most that is printed: an answer line for each question.
-pub const PRINTED: usize = model::Log::PRINTED;
+pub const PRINTED: usize = Log::PRINTED;
 
 // Is the workspace or the bar space too small, by their sizes?
 fn cramped(ws: usize, bs: usize) -> bool
     ensures { λ r. ⌜ r ≡ cramped ws bs ⌝ }
 {
-    if ws < WORKSPACE {
+    if ws < Log::WORKSPACE {
         return true;
     }
-    bs < BARSPACE
+    bs < Log::BARSPACE
 }
 
 // Answer's refusal where no one line is at fault.
@@ -56,26 +51,27 @@ fn line_refused(fault: model::Fault) -> model::LineAnswer
 // Lays a loaded log out, and writes the answer line to a question of it at the front of `out`; hands back its length.
 fn answer_loaded(
     list: &[u8],
-    k: usize,
-    table: &[u8],
-    s: frame::State,
+    store: &[u8],
+    loaded: load::Loaded,
     question: usize,
     ws: &mut [u8],
     bs: &mut [u8],
     out: &mut [u8],
 ) -> usize
-    requires { ⌜ (question < s .questions) × (k ≤ length (now list)) × (length (now table) ≡ 10240) × (65536 ≤ length (now ws)) × (8192 ≤ length (now bs)) × (273 ≤ length (now out)) ⌝ }
-    requires { ⌜ ((log : List ℕ) × Accepts limits log s k (now list) (now table)) ⌝ }
-    ensures { λ r. ⌜ ((log : List ℕ) (a : Accepts limits log s k (now (list .entry)) (now (table .entry))) (f : Formula) → getElem? (a .reading .questions) question ≡ some f → Written (answerLine (answer (a .reading .computation) f)) r (now (out .entry)) (now (out .exit))) ⌝ }
+    requires { ⌜ (question < loaded .state .questions) × (loaded .length ≤ length (now list)) × (length (now store) ≡ storeSize) × (workspaceSize ≤ length (now ws)) × (barspaceSize ≤ length (now bs)) × (lineSize ≤ length (now out)) ⌝ }
+    requires { ⌜ ((log : List ℕ) × Accepts limits log (loaded .state) (loaded .length) (now list) (now store)) ⌝ }
+    ensures { λ r. ⌜ ((log : List ℕ) (a : Accepts limits log (loaded .state) (loaded .length) (now (list .entry)) (now (store .entry))) (f : Formula) → getElem? (a .reading .questions) question ≡ some f → Written (answerLine (answer (a .reading .computation) f)) r (now (out .entry)) (now (out .exit))) ⌝ }
 {
+    let s = loaded.state;
     let n = s.stations;
     let e = s.events;
     let counts = s.counts;
-    let mut starts = [0u8; 1024];
-    let mut values = [0u16; 135];
-    let offs = layout::lay(table, n, &counts, &mut starts, &mut values);
+    let k = loaded.length;
+    let mut starts = [0u8; Log::STARTS];
+    let mut facts = [0u16; Log::FACTS];
+    let x = layout::lay(store, n, e, counts, &mut starts, &mut facts);
     let q = question_at(list, k, s.first_question() + question);
-    put_line(q, n, e, &counts, &offs, &starts, &values, ws, bs, out)
+    put_line(q, x, &starts, &facts, ws, bs, out)
 }
 
 // Answer: the line that answers a question of a log, at the front of `out`.
@@ -91,9 +87,9 @@ pub fn answer(
     ensures { λ r. ⌜ Kept (lineReply r) (now (ws .entry)) (now (ws .exit)) × Kept (lineReply r) (now (bs .entry)) (now (bs .exit)) ⌝ }
     ensures { λ r. ⌜ ((K : Computation) (f : Formula) → Asked limits (now (log .entry)) question K f → (m : ℕ) → lineReply r ≡ gives (m ∷ []) → Answered K f (take m (now (out .exit)))) ⌝ }
 {
-    let mut list = [0u8; model::Log::LIST];
-    let mut table = [0u8; model::Log::STORE];
-    let loaded = load::load(model::Log::limits(), log, &mut list, &mut table);
+    let mut list = [0u8; Log::LIST];
+    let mut store = [0u8; Log::STORE];
+    let loaded = load::load(Log::limits(), log, &mut list, &mut store);
     let outcome = loaded.outcome;
     match outcome {
         load::Acceptance::Refused(refusal) => model::LineAnswer::Refused(refusal),
@@ -103,14 +99,14 @@ pub fn answer(
                 return line_refused(model::Fault::NoQuestion);
             }
             let tight = cramped(ws.len(), bs.len());
-            let short = out.len() < LINE;
+            let short = out.len() < Log::LINE;
             if tight {
                 return line_refused(model::Fault::Workspace);
             }
             if short {
                 return line_refused(model::Fault::Output);
             }
-            let size = answer_loaded(&list, loaded.length, &table, s, question, ws, bs, out);
+            let size = answer_loaded(&list, &store, loaded, question, ws, bs, out);
             model::LineAnswer::Written(size)
         }
     }
@@ -130,26 +126,27 @@ fn holds_refused(fault: model::Fault) -> model::HoldsAnswer
 // Lays a loaded log out, and tells whether a question of it is true at a cut.
 fn holds_loaded(
     list: &[u8],
-    k: usize,
-    table: &[u8],
-    s: frame::State,
+    store: &[u8],
+    loaded: load::Loaded,
     question: usize,
     cut: &[u8],
     ws: &mut [u8],
     bs: &mut [u8],
 ) -> bool
-    requires { ⌜ (question < s .questions) × (k ≤ length (now list)) × (length (now table) ≡ 10240) × (length (now cut) ≡ s .stations) × (65536 ≤ length (now ws)) × (8192 ≤ length (now bs)) ⌝ }
-    requires { ⌜ ((log : List ℕ) × Accepts limits log s k (now list) (now table)) ⌝ }
-    ensures { λ r. ⌜ ((log : List ℕ) (a : Accepts limits log s k (now (list .entry)) (now (table .entry))) (f : Formula) → getElem? (a .reading .questions) question ≡ some f → r ≡ trueAt (a .reading .computation) f (now (cut .entry))) ⌝ }
+    requires { ⌜ (question < loaded .state .questions) × (loaded .length ≤ length (now list)) × (length (now store) ≡ storeSize) × (length (now cut) ≡ loaded .state .stations) × (workspaceSize ≤ length (now ws)) × (barspaceSize ≤ length (now bs)) ⌝ }
+    requires { ⌜ ((log : List ℕ) × Accepts limits log (loaded .state) (loaded .length) (now list) (now store)) ⌝ }
+    ensures { λ r. ⌜ ((log : List ℕ) (a : Accepts limits log (loaded .state) (loaded .length) (now (list .entry)) (now (store .entry))) (f : Formula) → getElem? (a .reading .questions) question ≡ some f → r ≡ trueAt (a .reading .computation) f (now (cut .entry))) ⌝ }
 {
+    let s = loaded.state;
     let n = s.stations;
     let e = s.events;
     let counts = s.counts;
-    let mut starts = [0u8; 1024];
-    let mut values = [0u16; 135];
-    let offs = layout::lay(table, n, &counts, &mut starts, &mut values);
+    let k = loaded.length;
+    let mut starts = [0u8; Log::STARTS];
+    let mut facts = [0u16; Log::FACTS];
+    let x = layout::lay(store, n, e, counts, &mut starts, &mut facts);
     let asked = question_at(list, k, s.first_question() + question);
-    true_at(asked, n, e, &counts, &offs, &starts, &values, cut, ws, bs)
+    true_at(asked, x, &starts, &facts, cut, ws, bs)
 }
 
 // Holds: whether a question of a log is true at a cut.
@@ -162,11 +159,11 @@ pub fn holds(
 ) -> model::HoldsAnswer
     ensures { λ r. ⌜ holdsReply r ≡ holdsOp limits (now (log .entry)) question (now (cut .entry)) (length (now (ws .entry))) (length (now (bs .entry))) ⌝ }
     ensures { λ r. ⌜ Kept (holdsReply r) (now (ws .entry)) (now (ws .exit)) × Kept (holdsReply r) (now (bs .entry)) (now (bs .exit)) ⌝ }
-    ensures { λ r. ⌜ ((K : Computation) (f : Formula) → Asked limits (now (log .entry)) question K f → Consistent K (now (cut .entry)) → 65536 ≤ length (now (ws .entry)) → 8192 ≤ length (now (bs .entry)) → Tested K f (now (cut .entry)) (holdsReply r)) ⌝ }
+    ensures { λ r. ⌜ ((K : Computation) (f : Formula) → Asked limits (now (log .entry)) question K f → Consistent K (now (cut .entry)) → workspaceSize ≤ length (now (ws .entry)) → barspaceSize ≤ length (now (bs .entry)) → Tested K f (now (cut .entry)) (holdsReply r)) ⌝ }
 {
-    let mut list = [0u8; model::Log::LIST];
-    let mut table = [0u8; model::Log::STORE];
-    let loaded = load::load(model::Log::limits(), log, &mut list, &mut table);
+    let mut list = [0u8; Log::LIST];
+    let mut store = [0u8; Log::STORE];
+    let loaded = load::load(Log::limits(), log, &mut list, &mut store);
     let outcome = loaded.outcome;
     match outcome {
         load::Acceptance::Refused(refusal) => model::HoldsAnswer::Refused(refusal),
@@ -176,7 +173,7 @@ pub fn holds(
                 return holds_refused(model::Fault::NoQuestion);
             }
             let counts = s.counts;
-            let inside = layout::consistent::consistent(cut, &table, s.stations, &counts);
+            let inside = layout::consistent::consistent(cut, &store, s.stations, &counts);
             let small = cramped(ws.len(), bs.len());
             if !inside {
                 return holds_refused(model::Fault::Cut);
@@ -184,7 +181,7 @@ pub fn holds(
             if small {
                 return holds_refused(model::Fault::Workspace);
             }
-            let yes = holds_loaded(&list, loaded.length, &table, s, question, cut, ws, bs);
+            let yes = holds_loaded(&list, &store, loaded, question, cut, ws, bs);
             told(yes)
         }
     }
@@ -193,56 +190,44 @@ pub fn holds(
 // The answer lines to all questions of a log that is laid out, one after another; hands back where the last ends.
 fn put_lines(
     list: &[u8],
-    k: usize,
-    s: frame::State,
-    offs: &[u8; 8],
+    loaded: load::Loaded,
+    x: Shape,
     starts: &[u8],
-    values: &[u16],
-    ws: &mut [u8],
-    bs: &mut [u8],
+    facts: &[u16],
     out: &mut [u8],
 ) -> usize
-    requires { ⌜ (k ≤ length (now list)) × (65536 ≤ length (now ws)) × (8192 ≤ length (now bs)) × (4368 ≤ length (now out)) ⌝ }
-    requires { ⌜ Prepared s k (now list) (now offs) (now starts) (now values) ⌝ }
-    ensures { λ r. ⌜ ((p : Prepared s k (now (list .entry)) (now (offs .entry)) (now (starts .entry)) (now (values .entry))) → Written (answerLines (p .accepts .reading .computation) (p .accepts .reading .questions)) r (now (out .entry)) (now (out .exit))) ⌝ }
+    requires { ⌜ (loaded .length ≤ length (now list)) × (printedSize ≤ length (now out)) ⌝ }
+    requires { ⌜ Prepared (loaded .state) (loaded .length) (now list) x (now starts) (now facts) ⌝ }
+    ensures { λ r. ⌜ ((p : Prepared (loaded .state) (loaded .length) (now (list .entry)) x (now (starts .entry)) (now (facts .entry))) → Written (answerLines (p .accepts .reading .computation) (p .accepts .reading .questions)) r (now (out .entry)) (now (out .exit))) ⌝ }
 {
-    let n = s.stations;
-    let e = s.events;
-    let counts = s.counts;
+    let s = loaded.state;
+    let k = loaded.length;
+    let mut ws = [0u8; Log::WORKSPACE];
+    let mut bs = [0u8; Log::BARSPACE];
     let mut end = 0;
     let mut i = 0;
     while i < s.questions {
         let q = question_at(list, k, s.first_question() + i);
-        end += put_line(
-            q,
-            n,
-            e,
-            &counts,
-            offs,
-            starts,
-            values,
-            ws,
-            bs,
-            &mut out[end..],
-        );
+        end += put_line(q, x, starts, facts, &mut ws, &mut bs, &mut out[end..]);
         i += 1;
     }
     end
 }
 
 // Lays a loaded log out, and writes the answer lines to all its questions; hands back where the last ends.
-fn print_loaded(list: &[u8], k: usize, table: &[u8], s: frame::State, out: &mut [u8]) -> usize
-    requires { ⌜ (k ≤ length (now list)) × (length (now table) ≡ 10240) × (4368 ≤ length (now out)) ⌝ }
-    requires { ⌜ ((log : List ℕ) × Accepts limits log s k (now list) (now table)) ⌝ }
-    ensures { λ r. ⌜ ((log : List ℕ) (a : Accepts limits log s k (now (list .entry)) (now (table .entry))) → Written (answerLines (a .reading .computation) (a .reading .questions)) r (now (out .entry)) (now (out .exit))) ⌝ }
+fn print_loaded(list: &[u8], store: &[u8], loaded: load::Loaded, out: &mut [u8]) -> usize
+    requires { ⌜ (loaded .length ≤ length (now list)) × (length (now store) ≡ storeSize) × (printedSize ≤ length (now out)) ⌝ }
+    requires { ⌜ ((log : List ℕ) × Accepts limits log (loaded .state) (loaded .length) (now list) (now store)) ⌝ }
+    ensures { λ r. ⌜ ((log : List ℕ) (a : Accepts limits log (loaded .state) (loaded .length) (now (list .entry)) (now (store .entry))) → Written (answerLines (a .reading .computation) (a .reading .questions)) r (now (out .entry)) (now (out .exit))) ⌝ }
 {
+    let s = loaded.state;
+    let n = s.stations;
+    let e = s.events;
     let counts = s.counts;
-    let mut starts = [0u8; 1024];
-    let mut values = [0u16; 135];
-    let offs = layout::lay(table, s.stations, &counts, &mut starts, &mut values);
-    let mut ws = [0u8; WORKSPACE];
-    let mut bs = [0u8; BARSPACE];
-    put_lines(list, k, s, &offs, &starts, &values, &mut ws, &mut bs, out)
+    let mut starts = [0u8; Log::STARTS];
+    let mut facts = [0u16; Log::FACTS];
+    let x = layout::lay(store, n, e, counts, &mut starts, &mut facts);
+    put_lines(list, loaded, x, &starts, &facts, out)
 }
 
 // What is printed for a log, at the front of `out`; hands back its length.
@@ -250,19 +235,16 @@ pub fn print_log(log: &[u8], out: &mut [u8; PRINTED]) -> usize
     ensures { λ r. ⌜ (r ≡ length (printed (now (log .entry)))) × (r ≤ length (now (out .exit))) ⌝ }
     ensures { λ r. ⌜ now (out .exit) ≡ printed (now (log .entry)) ++ drop r (now (out .entry)) ⌝ }
 {
-    let mut list = [0u8; model::Log::LIST];
-    let mut table = [0u8; model::Log::STORE];
-    let loaded = load::load(model::Log::limits(), log, &mut list, &mut table);
+    let mut list = [0u8; Log::LIST];
+    let mut store = [0u8; Log::STORE];
+    let loaded = load::load(Log::limits(), log, &mut list, &mut store);
     let outcome = loaded.outcome;
     match outcome {
         load::Acceptance::Refused(refusal) => {
             let fault = refusal.fault;
             report::put_refusal(fault.number(), refusal.line, out)
         }
-        load::Acceptance::Accepted => {
-            let s = loaded.state;
-            print_loaded(&list, loaded.length, &table, s, out)
-        }
+        load::Acceptance::Accepted => { print_loaded(&list, &store, loaded, out) }
     }
 }
 

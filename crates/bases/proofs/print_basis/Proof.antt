@@ -6,7 +6,7 @@ use Rattle.bases.proofs.print_basis.Statement.{statement}
 use Rattle.bases.proofs.print_basis.Tie as tie
 
 basis-true-requires : tie.Need-basis-true-requires
-basis-true-requires c κs = let p = c .before .before .before .before .before .before .before .pre in room (p .0 .2) _ _ (p .1 .0) (p .1 .1)
+basis-true-requires c κs = let p = c .before .before .before .before .before .before .before .pre in room (p .0 .2) _ _ (p .0 .3) (p .1)
 
 slice-aggregate-print-count : tie.Need-slice-aggregate-print-count
 slice-aggregate-print-count c = search needs
@@ -18,9 +18,9 @@ print-structures-requires : tie.Need-print-structures-requires
 print-structures-requires c κs =
     let p = c .before .before .before .before .before .before .before .before .before .before .before .before .before .before .before .before .pre in
     let g = p .0 .2 in
-    let l = g .laid in
+    let l = g .laid .0 .shaped in
     let b = c .before .before .before .before .before .before .before .before .basis-true in
-    let s = stands g (b .ensures) (omega (arith, b .kept .1 .0, p .1 .0)) (omega (arith, b .kept .1 .1 .0, p .1 .1)) in
+    let s = stands g (b .ensures) (omega (arith, b .kept .1 .0, p .0 .3)) (omega (arith, b .kept .1 .1 .0, p .1)) in
     (l .some-station, l .few-stations, l .few-events, count-few g (b .ensures), s .cells-fit, s .bars-fit)
 
 slice-aggregate-print-count-2 : tie.Need-slice-aggregate-print-count-2

@@ -41,8 +41,8 @@ slice-aggregate-print-loaded-2 c = search needs
 
 print-loaded-requires : tie.Need-print-loaded-requires
 print-loaded-requires c κs =
-    let l = c .before .before .before .before .before .before .before .load in
-    let a = to-accepts _ (c .before .before .before .before .before .before .before .before .before .before .limits .ensures) _ _ _ _ _ _ (l .ensures .0) (c .before .before .before .enum-told .given .1) in
+    let l = c .before .before .before .before .before .before .load in
+    let a = to-accepts _ (c .before .before .before .before .before .before .before .before .before .limits .ensures) _ _ _ _ _ _ (l .ensures .0) (c .before .before .enum-told .given .1) in
     ((omega (arith, a .short, l .kept), omega (arith, l .kept)), (_, a))
 
 slice-aggregate-write-all-2 : tie.Need-slice-aggregate-write-all-2

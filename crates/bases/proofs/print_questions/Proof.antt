@@ -9,10 +9,10 @@ use Rattle.bases.proofs.print_questions.Statement.{statement}
 use Rattle.bases.proofs.print_questions.Tie as tie
 
 abbrev Inv-loop : tie.InvT-loop
-Inv-loop list k s offs starts values ws₀ bs₀ n e counts i₀ ws bs i = (i ≤ s .questions) × (length ws ≡ length ws₀) × (length bs ≡ length bs₀)
+Inv-loop list x starts facts ws₀ bs₀ s k i₀ ws bs i = (i ≤ s .questions) × (length ws ≡ length ws₀) × (length bs ≡ length bs₀)
 
 abbrev μ-loop : tie.MeasureT-loop
-μ-loop list k s offs starts values ws₀ bs₀ n e counts i₀ ws bs i = s .questions - i
+μ-loop list x starts facts ws₀ bs₀ s k i₀ ws bs i = s .questions - i
 
 loop-holds : tie.Need-loop-holds Inv-loop μ-loop
 loop-holds c = (omega arith, refl, refl)
@@ -28,23 +28,23 @@ question-at-requires c κs = let p = c .before .before .before .before .before .
 
 print-basis-requires : tie.Need-print-basis-requires Inv-loop μ-loop
 print-basis-requires c κs =
-    let p = c .before .before .before .before .before .before .before .before .before .before .before .before .before .before .pre in
+    let p = c .before .before .before .before .before .before .before .before .before .before .before .before .before .pre in
     let a = p .1 .accepts in
-    let h = c .before .before .before .before .before .if1 .taken in
-    let i = c .before .before .before .before .before .before .before .loop .inv in
-    (posed a _ _ (c .before .before .before .question-at .ensures _ (asks-at a _ (c .before .before .before .before .first-question .ensures) _ h)) h (p .1 .laid), (omega (arith, i .1, p .0 .1), omega (arith, i .2, p .0 .2)))
+    let h = c .before .before .before .before .if1 .taken in
+    let i = c .before .before .before .before .before .before .loop .inv in
+    (posed a _ _ (c .before .before .question-at .ensures _ (asks-at a _ (c .before .before .before .first-question .ensures) _ h)) h _ (omega (arith, i .1, p .0 .1)) (p .1 .laid), omega (arith, i .2, p .0 .2))
 
 add-i : tie.Need-add-i Inv-loop μ-loop
-add-i c = omega (arith, c .before .before .before .before .before .before .before .before .before .before .before .before .before .before .before .before .before .before .before .pre .1 .accepts .bounded .few-questions, c .before .before .before .before .before .before .before .before .before .before .if1 .taken)
+add-i c = omega (arith, c .before .before .before .before .before .before .before .before .before .before .before .before .before .before .before .before .before .before .pre .1 .accepts .bounded .few-questions, c .before .before .before .before .before .before .before .before .before .if1 .taken)
 
 loop-less : tie.Need-loop-less Inv-loop μ-loop
-loop-less c = omega (arith, c .before .before .before .before .before .before .before .before .before .before .if1 .taken)
+loop-less c = omega (arith, c .before .before .before .before .before .before .before .before .before .if1 .taken)
 
 loop-again : tie.Need-loop-again Inv-loop μ-loop
 loop-again c =
     let l = c .before .before .before .before .print-basis in
-    let i = c .before .before .before .before .before .before .before .before .before .before .before .before .loop .inv in
-    (omega (arith, c .before .before .before .before .before .before .before .before .before .before .if1 .taken), l .kept .1 .1 .1 .1 .1 .1 .1 .0 ∙ i .1, l .kept .1 .1 .1 .1 .1 .1 .1 .1 .0 ∙ i .2)
+    let i = c .before .before .before .before .before .before .before .before .before .before .before .loop .inv in
+    (omega (arith, c .before .before .before .before .before .before .before .before .before .if1 .taken), l .kept .1 .1 .1 .1 .0 ∙ i .1, l .kept .1 .1 .1 .1 .1 .0 ∙ i .2)
 
 same-length : tie.Need-same-length Inv-loop μ-loop
 same-length c = c .before .before .loop .inv .1

@@ -1,6 +1,6 @@
 -- `print_loaded` meets its contract: the log is laid out once, and all its questions are answered over that. Assumes nothing.
 use borrow.Author.Needs.{needs}
-use Rattle.finder.proofs.Logs.{loaded, counts-few}
+use Rattle.finder.proofs.Logs.{loaded, counts-total}
 use Rattle.finder.proofs.print_loaded.Statement.{statement}
 use Rattle.finder.proofs.print_loaded.Tie as tie
 
@@ -14,7 +14,7 @@ lay-requires : tie.Need-lay-requires
 lay-requires c κs =
     let p = c .before .before .before .before .before .before .before .pre in
     let a = p .1 .1 in
-    ((a .some-stations, a .bounded .few-stations, p .0 .1, search needs, search needs), (a .bounded .eight, counts-few a))
+    ((a .some-stations, a .bounded .few-stations, p .0 .1, search needs, search needs), (a .bounded .eight, counts-total a, a .bounded .few-events))
 
 slice-aggregate-put-lines : tie.Need-slice-aggregate-put-lines
 slice-aggregate-put-lines c = search needs
@@ -22,23 +22,17 @@ slice-aggregate-put-lines c = search needs
 slice-aggregate-put-lines-2 : tie.Need-slice-aggregate-put-lines-2
 slice-aggregate-put-lines-2 c = search needs
 
-slice-aggregate-put-lines-3 : tie.Need-slice-aggregate-put-lines-3
-slice-aggregate-put-lines-3 c = search needs
-
-slice-aggregate-put-lines-4 : tie.Need-slice-aggregate-put-lines-4
-slice-aggregate-put-lines-4 c = search needs
-
 put-lines-requires : tie.Need-put-lines-requires
 put-lines-requires c κs =
-    let p = c .before .before .before .before .before .before .before .before .before .before .before .before .before .before .before .before .pre in
+    let p = c .before .before .before .before .before .before .before .before .before .before .before .before .before .pre in
     let a = p .1 .1 in
-    ((p .0 .0, search needs, search needs, p .0 .2), record { log = _; table = _; accepts = a; laid = c .before .before .before .before .before .before .before .before .lay .ensures _ _ (loaded a) })
+    ((p .0 .0, p .0 .2), record { log = _; table = _; accepts = a; laid = c .before .before .before .before .before .lay .ensures .2 _ (loaded a) })
 
 same-length : tie.Need-same-length
 same-length c = search needs
 
 returns : tie.Need-returns
-returns c log a = c .before .before .before .before .put-lines .ensures (record { log = log; table = _; accepts = a; laid = c .before .before .before .before .before .before .before .before .before .before .before .before .before .lay .ensures _ _ (loaded a) })
+returns c log a = c .before .before .put-lines .ensures (record { log = log; table = _; accepts = a; laid = c .before .before .before .before .before .before .before .before .lay .ensures .2 _ (loaded a) })
 
 pub print-loaded-spec : {M : Type 1} → statement M
 print-loaded-spec =
@@ -49,8 +43,6 @@ print-loaded-spec =
     lay-requires
     slice-aggregate-put-lines
     slice-aggregate-put-lines-2
-    slice-aggregate-put-lines-3
-    slice-aggregate-put-lines-4
     put-lines-requires
     same-length
     returns)

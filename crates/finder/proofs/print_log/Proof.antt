@@ -42,8 +42,8 @@ slice-aggregate-print-loaded-2 c = search needs
 
 print-loaded-requires : tie.Need-print-loaded-requires
 print-loaded-requires c κs =
-    let l = c .before .before .before .before .before .before .before .before .load in
-    let a = to-accepts _ (c .before .before .before .before .before .before .before .before .before .before .before .limits .ensures) _ _ _ _ _ _ (l .ensures .0) (c .before .before .before .before .enum-told .given .1) in
+    let l = c .before .before .before .before .before .before .before .load in
+    let a = to-accepts _ (c .before .before .before .before .before .before .before .before .before .before .limits .ensures) _ _ _ _ _ _ (l .ensures .0) (c .before .before .before .enum-told .given .1) in
     ((omega (arith, a .short, l .kept), omega (arith, l .kept), search needs), (_, a))
 
 returns : tie.Need-returns
@@ -53,7 +53,7 @@ returns c =
 
 returns-2 : tie.Need-returns-2
 returns-2 c =
-    let a = to-accepts _ (c .before .before .before .before .before .before .before .before .before .before .before .before .limits .ensures) _ _ _ _ _ _ (c .before .before .before .before .before .before .before .before .before .load .ensures .0) (c .before .before .before .before .before .enum-told .given .1) in
+    let a = to-accepts _ (c .before .before .before .before .before .before .before .before .before .before .before .limits .ensures) _ _ _ _ _ _ (c .before .before .before .before .before .before .before .before .load .ensures .0) (c .before .before .before .before .enum-told .given .1) in
     printed-so (printed-lines _ (a .reading) (a .is)) (c .print-loaded .ensures _ a)
 
 pub print-log-spec : {M : Type 1} → statement M
