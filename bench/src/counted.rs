@@ -73,7 +73,7 @@ fn program(stations: usize, events: usize) -> Program {
 
 /// For 2 to 8 stations and for fewer events; the last is the largest log.
 pub fn programs() -> Vec<Program> {
-    [(2, 127), (4, 127), (8, 32), (8, 64), (8, 127)].map(|(stations, events)| program(stations, events)).into()
+    [(2, 127), (3, 127), (4, 127), (6, 127), (8, 32), (8, 64), (8, 127)].map(|(stations, events)| program(stations, events)).into()
 }
 
 pub fn section(programs: &[Program]) -> String {
