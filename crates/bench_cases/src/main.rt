@@ -49,12 +49,12 @@ fn print_case(log: &[u8]) {
 }
 
 // The three spaces as lent. They are made here so that no other proof has to look at their cells.
-fn lent_workspace() -> [u8; 65536] {
-    [trial::LENT; 65536]
+fn lent_workspace() -> [u8; model::Log::WORKSPACE] {
+    [trial::LENT; model::Log::WORKSPACE]
 }
 
-fn lent_bars() -> [u8; 8192] {
-    [trial::LENT; 8192]
+fn lent_bars() -> [u8; model::Log::BARSPACE] {
+    [trial::LENT; model::Log::BARSPACE]
 }
 
 fn lent_line() -> [u8; 300] {
@@ -71,8 +71,8 @@ fn run_case(head: [u8; 8], cut: &[u8], log: &[u8]) {
     let mut bars = lent_bars();
     let mut line = lent_line();
     let short = trial::word(0, head[3]);
-    let cells = 65536 - short % 2;
-    let bar_cells = 8192 - short / 2 % 2;
+    let cells = model::Log::WORKSPACE - short % 2;
+    let bar_cells = model::Log::BARSPACE - short / 2 % 2;
     let question = trial::word(0, head[1]);
     let letter = head[0];
     if letter == b'A' {

@@ -3,7 +3,7 @@ use mathlib.Core.Path.{_≡_, refl, ap}
 use mathlib.Core.Bool.{Bool, true, false, cond}
 use mathlib.Core.List.{List, [], _∷_, map}
 use mathlib.Core.Option.{Option, none, some}
-use Prim.Native.Nat.{ℕ, suc, _-_, _%_, _≤_, _<_}
+use Prim.Native.Nat.{ℕ, _+_, suc, _-_, _%_, _≤_, _<_}
 use native.Mathlib.Omega.{arith}
 use lib.ListN.{length, take, length-append, length-map}
 use lib.Dec.{leb, eqb}
@@ -90,9 +90,9 @@ refused-number n r (frame f ∷ l) k i (e-more h m) e = by (admit limits r f) (a
 
 -- A LOG AND A FRAME LIST
 
-pub log-named : (log : List ℕ) (k n : ℕ) → readLog limits log ≡ refused k n → (0 < k) × (n ≤ 8193)
+pub log-named : (log : List ℕ) (k n : ℕ) → readLog limits log ≡ refused k n → (0 < k) × (n ≤ limits .bytes + 1)
 unfolding readLog
-log-named log k n e = (by (leb (length log) 8192) e, refused-line log k n e)
+log-named log k n e = (by (leb (length log) (limits .bytes)) e, refused-line log k n e)
   where
     by : (t : Bool) → cond t (readItems limits 1 nothing (items (linesOf log))) (refused 1 0) ≡ refused k n → 0 < k
     by true e = refused-number 1 nothing (items (linesOf log)) k n (items-marked (linesOf log)) e
@@ -104,14 +104,14 @@ unfolding listOf
 frames-few [] = omega arith
 frames-few (f ∷ fs) = omega (arith, frames-few fs, length-append f (listOf fs))
 
-pub list-named : (l : List ℕ) (k n : ℕ) → readList limits l ≡ refused k n → (0 < k) × (n ≤ 8193)
+pub list-named : (l : List ℕ) (k n : ℕ) → readList limits l ≡ refused k n → (0 < k) × (n ≤ limits .bytes + 1)
 unfolding readList readFrames
-list-named l k n e = by (leb (length l) 4096) refl (framesOf l) refl e
+list-named l k n e = by (leb (length l) (limits .list)) refl (framesOf l) refl e
   where
-    by : (t : Bool) → leb (length l) 4096 ≡ t → (o : Option (List (List ℕ))) → framesOf l ≡ o → cond t (readFrames limits o) (refused 14 0) ≡ refused k n → (0 < k) × (n ≤ 8193)
+    by : (t : Bool) → leb (length l) (limits .list) ≡ t → (o : Option (List (List ℕ))) → framesOf l ≡ o → cond t (readFrames limits o) (refused 14 0) ≡ refused k n → (0 < k) × (n ≤ limits .bytes + 1)
     by true h (some fs) f e = (
       refused-number 1 nothing (map frame fs) k n (frames-marked fs) e,
-      omega (arith, refused-item 1 nothing (map frame fs) k n (omega arith) e, length-map fs frame, frames-few fs, ap length (list-frames l fs f .0), leb-true (length l) 4096 h),
+      omega (arith, refused-item 1 nothing (map frame fs) k n (omega arith) e, length-map fs frame, frames-few fs, ap length (list-frames l fs f .0), leb-true (length l) (limits .list) h),
     )
     by true h none f e = let z : 14 ≡ k = cc in let w : 0 ≡ n = cc in (omega arith, omega arith)
     by false h o f e = let z : 14 ≡ k = cc in let w : 0 ≡ n = cc in (omega arith, omega arith)

@@ -3,7 +3,7 @@ use mathlib.Core.Path.{_≡_, refl, sym, ap, _∙_}
 use mathlib.Core.Bool.{Bool, true, false, cond}
 use mathlib.Core.List.{List, [], _∷_}
 use mathlib.Core.Option.{Option, none, some}
-use Prim.Native.Nat.{ℕ, _^_, _≤_, _<_}
+use Prim.Native.Nat.{ℕ, _+_, _^_, _≤_, _<_}
 use native.Mathlib.Omega.{arith}
 use lib.ListN.{length, getElem?}
 use lib.Dec.{ltb}
@@ -22,16 +22,16 @@ use Rattle.codec.proofs.Demands.{asked-line-fits}
 use Rattle.exports.specs.Packed.{pack, packed}
 use Rattle.exports.proofs.Numbers.{log-named, list-named}
 
--- Bytes, and a last value of up to 8,192.
+-- Bytes, and a last value of at most the bytes of a log.
 abbrev pub Low : List ℕ → Type 0
 Low [] = Unit {0}
-Low (v ∷ []) = v ≤ 8192
+Low (v ∷ []) = v ≤ limits .bytes
 Low (v ∷ w ∷ l) = (v < 256) × Low (w ∷ l)
 
 -- m low values; or a refusal's number and line.
 abbrev pub Fair : ℕ → Reply → Type 0
 Fair m (gives values) = (length values ≡ m) × Low values
-Fair m (refuses k n) = (0 < k) × (n ≤ 8193)
+Fair m (refuses k n) = (0 < k) × (n ≤ limits .bytes + 1)
 
 -- THE FOUR OPERATIONS
 
@@ -97,10 +97,10 @@ holds-fair log q c ws bs = by (readLog limits log) refl
 
 -- WHAT THE CODE PACKS
 
-pub line-low : (m k n : ℕ) (x : Reply) → refuses k n ≡ x → Fair m x → n ≤ 8193
+pub line-low : (m k n : ℕ) (x : Reply) → refuses k n ≡ x → Fair m x → n ≤ limits .bytes + 1
 line-low m k n x e f = (rw (sym e) at f) .1
 
-pub counts-low : (a b c d : ℕ) (x : Reply) → gives (a ∷ b ∷ c ∷ d ∷ []) ≡ x → Fair 4 x → (a < 256) × (b < 256) × (c < 256) × (d ≤ 8192)
+pub counts-low : (a b c d : ℕ) (x : Reply) → gives (a ∷ b ∷ c ∷ d ∷ []) ≡ x → Fair 4 x → (a < 256) × (b < 256) × (c < 256) × (d ≤ limits .bytes)
 counts-low a b c d x e f = let w = (rw (sym e) at f) .1 in (w .0, w .1 .0, w .1 .1 .0, w .1 .1 .1)
 
 -- One value is its own number.

@@ -6,7 +6,7 @@ use model::ReadAnswer;
 use model::Refusal;
 use model::WriteAnswer;
 ghost use mathlib.Core.Path.{_≡_};
-ghost use Prim.Native.Nat.{_≤_, _<_};
+ghost use Prim.Native.Nat.{_+_, _≤_, _<_};
 ghost use mathlib.Core.List.{[], _∷_};
 ghost use lib.ListN.{length};
 ghost use Rattle.model.specs.Limits.{limits};
@@ -19,7 +19,7 @@ const HIGHEST: u64 = 0x0100_0000_0000_0000;
 
 // A refusal: its number in the highest byte, its line below.
 fn packed_refusal(r: Refusal) -> u64
-    requires { ⌜ r .line ≤ 8193 ⌝ }
+    requires { ⌜ r .line ≤ limits .bytes + 1 ⌝ }
     ensures { λ v. ⌜ v ≡ packed (refusal r) ⌝ }
 {
     let f = r.fault;
@@ -28,7 +28,7 @@ fn packed_refusal(r: Refusal) -> u64
 
 // Read's four values, the first in the lowest byte.
 fn packed_counts(l: Log) -> u64
-    requires { ⌜ (l .stations < 256) × (l .events < 256) × (l .questions < 256) × (l .list ≤ 8192) ⌝ }
+    requires { ⌜ (l .stations < 256) × (l .events < 256) × (l .questions < 256) × (l .list ≤ limits .bytes) ⌝ }
     ensures { λ v. ⌜ v ≡ packed (gives (l .stations ∷ l .events ∷ l .questions ∷ l .list ∷ [])) ⌝ }
 {
     l.stations as u64 + 256 * (l.events as u64 + 256 * (l.questions as u64 + 256 * (l.list as u64)))
