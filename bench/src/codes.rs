@@ -37,7 +37,7 @@ pub const PEERS: &[Peer] = &[
         about: "Rust code of bench/ made for speed, with the same lines: eight counts joined and sixteen digits decoded at once, and in a pair \
             with a range the rounds worked out once for each count of its station and looked up by every start",
         colour: "#909",
-        target: None,
+        target: Some(1.3),
         answer: fast::answer,
         printed: fast::printed,
     },
