@@ -18,12 +18,12 @@ use Rattle.model.specs.Reading.{Reading, check, stationOf, eventForm, extended,
 use Rattle.codec.specs.Limits.{NoLarger}
 use Rattle.cells.specs.Put.{putOf}
 use Rattle.lattice.proofs.Histories.{eventCount-extended, count-same, count-other, value-old, value-new, clock-old, clock-new}
+use Rattle.table.specs.Table.{slot, Stored}
+use Rattle.table.proofs.Parts.{part-same, part-other}
+use Rattle.table.proofs.Slots.{apart, word-take, value-at, clock-at}
 use Rattle.frame.specs.declared.State.{State}
 use Rattle.frame.specs.declared.Step.the-variants.{Next}
-use Rattle.frame.specs.Table.{slot, Stored}
 use Rattle.frame.specs.State.{afterEvent, Bounded, Represents, Goes, Admits}
-use Rattle.frame.proofs.Parts.{part-same, part-other}
-use Rattle.frame.proofs.Slots.{apart, word-take, value-at, clock-at}
 use Rattle.frame.proofs.Steps.{Frame, kind-event, kind-front, begun-not, begun-yes, unasked-not, unasked-yes, events-full, events-room}
 
 -- FAULTS

@@ -1,16 +1,16 @@
--- Laws of the header: its form, the slots that it opens, and the table that then stands. Assumes nothing.
+-- Laws of the header: its form, and the table that stands once its slots are open. Assumes nothing.
 use mathlib.Core.Path.{_≡_, refl, sym, ap, _∙_}
 use mathlib.Core.Bool.{Bool, true, false, and-false}
 use mathlib.Core.List.{List, [], _∷_, _++_}
 use Prim.Native.Nat.{ℕ, zero, suc, _+_, _*_, _<_, _≤_}
 use native.Mathlib.Omega.{arith}
 use native.Mathlib.Nat.{le-trans}
-use lib.Dec.{eqb, ltb}
-use borrow.Author.Tests.{eq-eqb, ne-eqb, le-leb, lt-leb, eqb-true, eqb-false, ltb-true, ltb-false}
+use lib.Dec.{ltb}
+use borrow.Author.Tests.{eq-eqb, ne-eqb, le-leb, lt-leb, ltb-true, ltb-false}
 use lib.ListN.{length, take, drop, getD, length-drop, length-replicate, getD-replicate, List·getD-eq-default}
 use lib.Seq.{getD-drop, getD-take, length-take-le, drop-drop, ext-getD}
 use Rattle.model.specs.declared.Limits.{Limits}
-use Rattle.model.specs.Limits.{limits, slotSize, storeSize}
+use Rattle.model.specs.Limits.{limits}
 use Rattle.model.specs.Lists.{between}
 use Rattle.model.specs.Frames.{word, words}
 use Rattle.model.specs.Cut.{_!_, empty}
@@ -18,14 +18,13 @@ use Rattle.model.specs.Computation.{stations, clock, value}
 use Rattle.model.specs.Reading.{Reading, headerForm, opened, withHeader, check, admit, admitHeader, go, fault}
 use Rattle.lattice.proofs.Histories.{length-opened, count-opened, eventCount-opened}
 use Rattle.codec.specs.Limits.{NoLarger}
-use Rattle.cells.specs.Put.{putOf}
+use Rattle.table.specs.Table.{slot, Stored}
+use Rattle.table.specs.Opening.{opening, Open}
+use Rattle.table.proofs.Slots.{value-at, clock-at}
 use Rattle.frame.specs.declared.State.{State}
 use Rattle.frame.specs.declared.Step.the-variants.{Next}
-use Rattle.frame.specs.Table.{slot, Stored}
 use Rattle.frame.specs.State.{afterHeader, Bounded, Goes, Admits}
-use Rattle.frame.specs.Header.{Headed, opening, Open}
-use Rattle.frame.proofs.Parts.{part-same, part-other}
-use Rattle.frame.proofs.Slots.{apart, value-at, clock-at}
+use Rattle.frame.specs.Header.{Headed}
 use Rattle.frame.proofs.Steps.{Frame, kind-header, kind-front, begun-not, begun-yes}
 
 -- FORM
@@ -73,21 +72,6 @@ module _ (m : Limits) (f : List ℕ) where
 
   pub headed : {n : ℕ} → n ≡ getD f 1 0 → n ≤ m .stations → length f ≡ 2 * n + 2 → Headed m f n
   headed e q h = record { few = q; wrong = λ z. none (omega arith); right = λ z. even (omega arith) (omega arith) (omega arith); is = λ z. e; long = λ z. h }
-
--- SLOTS
-pub open-none : {f t : List ℕ} → Open f 0 t
-open-none = record { at = λ j h. absurd (omega arith) }
-
-pub open-more : {f t : List ℕ} {j : ℕ} (t′ : List ℕ) → j < limits .stations → length t ≡ storeSize → Open f j t → t′ ≡ putOf t (slot j 0) (opening f j) → Open f (j + 1) t′
-open-more {f} {t} {j} t′ l long o e = record { at = λ i h. rw e (case i h (eqb i j) refl) } where
-  case : (i : ℕ) → i < j + 1 → (b : Bool) → eqb i j ≡ b → take slotSize (drop (slot i 0) (putOf t (slot j 0) (opening f j))) ≡ opening f i
-  case i h true q = let z : i ≡ j = eqb-true i j q in rw z (part-same t (opening f j) (slot j 0) (omega arith) slotSize refl)
-  case i h false q =
-      part-other t (opening f j) (slot j 0) (omega arith) (slot i 0) slotSize (omega arith) (apart i 0 j 0 (omega arith) (omega arith) (λ z. eqb-false i j q (z .0)))
-      ∙ o .at i (omega (arith, eqb-false i j q))
-
-pub open-all : {f t : List ℕ} {j n : ℕ} → j ≤ n → n ≤ j → Open f j t → Open f n t
-open-all {f} {t} {j} {n} a b o = record { at = λ i h. o .at i (omega arith) }
 
 -- FAULTS
 

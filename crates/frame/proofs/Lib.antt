@@ -1,6 +1,3 @@
-pub mod Parts
-pub mod Clocks
-pub mod Slots
 pub mod Steps
 pub mod Headers
 pub mod Events

@@ -10,11 +10,11 @@ use Rattle.model.specs.Computation.{stations, eventCount}
 use Rattle.model.specs.Reading.{Reading, admit, go, fault}
 use Rattle.model.specs.Reply.{number}
 use Rattle.model.specs.declared.Fault.{Fault}
+use Rattle.table.specs.Table.{Stored}
 use Rattle.frame.specs.declared.State.{State}
 use Rattle.frame.specs.declared.Step.{Step}
 use Rattle.frame.specs.declared.Step.the-variants.{Next, Faulty}
 use Rattle.frame.specs.declared.Admitted.{Admitted}
-use Rattle.frame.specs.Table.{Stored}
 
 -- Nothing has been read.
 abbrev pub fresh : State

@@ -2,16 +2,16 @@
 use crate::Admitted;
 use crate::State;
 use crate::Step;
-use crate::clock::clock_ok;
-use crate::table::slot;
 use cells::wide;
+use table::clock::clock_ok;
+use table::slot;
 ghost use mathlib.Core.Path.{_≡_};
 ghost use Prim.Native.Nat.{_+_, _≤_, _<_};
 ghost use lib.ListN.{length, getD};
 ghost use Rattle.model.specs.Limits.{limits, storeSize};
 ghost use Rattle.codec.specs.Limits.{NoLarger};
 ghost use Rattle.cells.specs.Put.{putOf};
-ghost use Rattle.frame.specs.Table.{slot};
+ghost use Rattle.table.specs.Table.{slot};
 ghost use Rattle.frame.specs.State.{afterEvent, Bounded, Admits};
 
 // Puts value and clock of the next event of station j into its slot, and counts it.

@@ -2,17 +2,15 @@
 use crate::Admitted;
 use crate::State;
 use crate::Step;
-use crate::table::slot;
 use cells::wide;
+use table::open_stations;
 ghost use mathlib.Core.Path.{_≡_};
-ghost use Prim.Native.Nat.{_+_, _*_, _≤_, _<_};
+ghost use Prim.Native.Nat.{_≤_};
 ghost use lib.ListN.{length, getD};
 ghost use Rattle.model.specs.Limits.{limits, storeSize};
 ghost use Rattle.codec.specs.Limits.{NoLarger};
-ghost use Rattle.cells.specs.Put.{putOf};
-ghost use Rattle.frame.specs.Table.{slot};
 ghost use Rattle.frame.specs.State.{Bounded, Admits};
-ghost use Rattle.frame.specs.Header.{Headed, opening, Open};
+ghost use Rattle.frame.specs.Header.{Headed};
 
 // The station count of a header, or 0 where its form is wrong.
 fn station_count(m: model::Limits, frame: &[u8]) -> usize
@@ -30,30 +28,6 @@ fn station_count(m: model::Limits, frame: &[u8]) -> usize
         return 0;
     }
     n
-}
-
-// Puts the first slot of station j into the store.
-fn open_station(frame: &[u8], j: usize, store: &mut [u8])
-    requires { ⌜ (j < limits .stations) × (2 * j + 3 < length (now frame)) × (length (now store) ≡ storeSize) ⌝ }
-    ensures { λ _. ⌜ now (store .exit) ≡ putOf (now (store .entry)) (slot j 0) (opening (now (frame .entry)) j) ⌝ }
-{
-    let at = slot(j, 0);
-    let mut cell = [0u8; model::Log::SLOT];
-    cell[0] = frame[2 * j + 2];
-    cell[1] = frame[2 * j + 3];
-    cells::put(&cell, store, at);
-}
-
-// Puts the first slots of n stations into the store.
-fn open_stations(frame: &[u8], n: usize, store: &mut [u8])
-    requires { ⌜ (n ≤ limits .stations) × (length (now frame) ≡ 2 * n + 2) × (length (now store) ≡ storeSize) ⌝ }
-    ensures { λ _. ⌜ Open (now (frame .entry)) n (now (store .exit)) ⌝ }
-{
-    let mut j = 0;
-    while j < n {
-        open_station(frame, j, store);
-        j += 1;
-    }
 }
 
 // Admits a header, within the limits m.

@@ -1,9 +1,7 @@
 // One frame of each kind, tried after what has been read into a state and a store.
-pub mod clock;
 pub mod event;
 pub mod header;
 pub mod question;
-pub mod table;
 
 ghost use mathlib.Core.Path.{_≡_};
 ghost use Prim.Native.Nat.{_≤_, _<_};

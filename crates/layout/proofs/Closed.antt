@@ -9,8 +9,8 @@ use lib.ListN.{length, getD}
 use borrow.Author.Tests.{eq-eqb, ne-eqb}
 use Rattle.model.specs.Lists.{every}
 use Rattle.model.specs.Computation.{Computation, stations, known, isConsistent}
-use Rattle.frame.specs.Table.{Stored}
-use Rattle.frame.proofs.Clocks.{every-fails}
+use Rattle.table.specs.Table.{Stored}
+use Rattle.table.proofs.Clocks.{every-fails}
 
 -- the cut v of n stations
 module _ {K : Computation} (v : List ℕ) {n : ℕ} {counts t : List ℕ} (g : Stored K n counts t) where

@@ -9,7 +9,7 @@ use lib.ListN.{length, take, drop, getD, set, length-drop}
 use lib.Seq.{paste, take-paste, take-suc-set}
 use Rattle.model.specs.Frames.{word}
 use Rattle.model.specs.Lists.{sum, total}
-use Rattle.frame.specs.Table.{slot}
+use Rattle.table.specs.Table.{slot}
 use Rattle.layout.specs.Rows.{inTurn, clockIn, clocksIn, startsIn, valuesOf, valuesIn}
 use Rattle.layout.proofs.Totals.{sum-next}
 

@@ -16,7 +16,7 @@ use Rattle.structure.specs.declared.Shape.{Shape}
 use Rattle.structure.specs.Shaped.{Shaped}
 use Rattle.structure.specs.Laid.{Laid, Facts}
 use Rattle.model.specs.Limits.{limits, startsSize, factsSize, storeSize}
-use Rattle.frame.specs.Table.{slot}
+use Rattle.table.specs.Table.{slot}
 use Rattle.layout.specs.Rows.{inTurn, clockIn, clocksIn, startsIn, valuesOf, valuesIn}
 use Rattle.layout.specs.Loaded.{Loaded}
 use Rattle.layout.proofs.Totals.{sum-next, sum-few, rows-fit}

@@ -3,7 +3,7 @@ use Prim.Native.Nat.{ℕ}
 use mathlib.Core.List.{List}
 use Rattle.model.specs.Computation.{Computation}
 use Rattle.lattice.proofs.Valid.{Valid}
-use Rattle.frame.specs.Table.{Stored}
+use Rattle.table.specs.Table.{Stored}
 
 -- The store holds K of n stations, which is lawful.
 pub record Loaded (K : Computation) (n : ℕ) (counts t : List ℕ) : Type 0 where

@@ -3,7 +3,7 @@ use Prim.Native.Nat.{ℕ, zero, suc, _+_}
 use mathlib.Core.List.{List, [], _∷_, _++_}
 use lib.ListN.{getD, take, drop}
 use Rattle.model.specs.Frames.{word}
-use Rattle.frame.specs.Table.{slot}
+use Rattle.table.specs.Table.{slot}
 
 -- The lists f 0 to f (m - 1), one after another.
 unfoldable pub inTurn : (ℕ → List ℕ) → ℕ → List ℕ

@@ -1,12 +1,12 @@
 // The test whether a cut is consistent.
 use cells::wide;
-use frame::clock::known;
+use table::clock::known;
 ghost use mathlib.Core.Path.{_≡_};
 ghost use Prim.Native.Nat.{ℕ, _≤_};
 ghost use lib.ListN.{length, getD};
 ghost use Rattle.model.specs.Limits.{limits, storeSize};
 ghost use Rattle.model.specs.Computation.{Computation, isConsistent};
-ghost use Rattle.frame.specs.Table.{Stored};
+ghost use Rattle.table.specs.Table.{Stored};
 
 // Is the cut consistent?
 pub fn consistent(cut: &[u8], store: &[u8], n: usize, counts: &[u8; 8]) -> bool

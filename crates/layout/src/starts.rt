@@ -1,8 +1,8 @@
 // The empty cut and the clocks of all events, as the cells of a structure.
 use cells::copy;
 use cells::wide;
-use frame::table::slot;
 use structure::Shape;
+use table::slot;
 ghost use mathlib.Core.Path.{_≡_};
 ghost use mathlib.Core.List.{_++_};
 ghost use Prim.Native.Nat.{_+_, _*_, _≤_, _<_};

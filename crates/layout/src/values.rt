@@ -1,8 +1,8 @@
 // The values of all stations, before and after each event.
 use cells::wide;
 use cells::word;
-use frame::table::slot;
 use structure::Shape;
+use table::slot;
 ghost use mathlib.Core.Path.{_≡_};
 ghost use mathlib.Core.List.{_++_};
 ghost use Prim.Native.Nat.{suc, _+_, _≤_, _<_};

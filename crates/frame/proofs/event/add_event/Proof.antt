@@ -2,7 +2,7 @@
 use mathlib.Core.Path.{ap, _∙_}
 use Prim.Native.Nat.{ℕ, _+_}
 use Rattle.cells.specs.Put.{putOf}
-use Rattle.frame.specs.Table.{slot}
+use Rattle.table.specs.Table.{slot}
 use native.Mathlib.Omega.{arith}
 use borrow.Author.Needs.{needs}
 use Rattle.frame.proofs.event.add_event.Statement.{statement}

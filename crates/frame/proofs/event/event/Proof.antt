@@ -8,7 +8,7 @@ use lib.ListN.{length, drop, length-take, length-drop}
 use Rattle.model.specs.declared.Fault.the-variants.{Kind, Event, Clock}
 use Rattle.model.specs.Computation.{Computation, clockOk}
 use Rattle.model.specs.Reading.{Reading}
-use Rattle.frame.specs.Table.{Stored}
+use Rattle.table.specs.Table.{Stored}
 use Rattle.frame.specs.State.{Represents}
 use Rattle.frame.proofs.Steps.{Frame, turned, bounded-up}
 use Rattle.frame.proofs.Events.{before-header, after-question, too-many, wrong-length, no-station, clock-wrong, tested, event-next}

@@ -7,8 +7,8 @@ use native.Mathlib.Omega.{arith}
 use lib.ListN.{getD}
 use Rattle.model.specs.Lists.{every}
 use Rattle.model.specs.Computation.{Computation, known}
-use Rattle.frame.specs.Table.{Stored}
-use Rattle.frame.proofs.Clocks.{every-more, known-not, known-yes}
+use Rattle.table.specs.Table.{Stored}
+use Rattle.table.proofs.Clocks.{every-more, known-not, known-yes}
 use Rattle.layout.proofs.Closed.{sized, wrong-size, wrong-station, all-right}
 use Rattle.layout.proofs.consistent.consistent.Statement.{statement}
 use Rattle.layout.proofs.consistent.consistent.Tie as tie

@@ -13,7 +13,7 @@ use borrow.Author.Tests.{eq-eqb, ne-eqb, le-leb, lt-leb, eqb-true, eqb-false, no
 use Rattle.model.specs.Lists.{every}
 use Rattle.model.specs.Cut.{inside}
 use Rattle.model.specs.Computation.{Computation, stations, count, clock, known, counted, clockOk}
-use Rattle.frame.specs.Table.{slot, Stored}
+use Rattle.table.specs.Table.{slot, Stored}
 
 -- every: a number that fails, one more that passes
 pub every-fails : (p : ℕ → Bool) (j n : ℕ) → j < n → p j ≡ false → every n p ≡ false

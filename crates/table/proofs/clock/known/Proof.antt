@@ -1,9 +1,9 @@
 -- The event is in the table if there are so many, and its clock stands in its slot. Assumes nothing.
 use native.Mathlib.Omega.{arith}
-use Rattle.frame.proofs.Clocks.{event-missing, event-there}
+use Rattle.table.proofs.Clocks.{event-missing, event-there}
 use borrow.Author.Needs.{needs}
-use Rattle.frame.proofs.clock.known.Statement.{statement}
-use Rattle.frame.proofs.clock.known.Tie as tie
+use Rattle.table.proofs.clock.known.Statement.{statement}
+use Rattle.table.proofs.clock.known.Tie as tie
 
 element-copy-out-wide : tie.Need-element-copy-out-wide
 element-copy-out-wide c = search needs

@@ -3,9 +3,9 @@ use borrow.Author.Needs.{needs}
 use Prim.Native.Nat.{_≤_, _-_}
 use native.Mathlib.Omega.{arith}
 use lib.ListN.{length}
-use Rattle.frame.proofs.Clocks.{Rest, rest-start, rest-fails, rest-more, rest-end}
-use Rattle.frame.proofs.clock.nowhere_above.Statement.{statement}
-use Rattle.frame.proofs.clock.nowhere_above.Tie as tie
+use Rattle.table.proofs.Clocks.{Rest, rest-start, rest-fails, rest-more, rest-end}
+use Rattle.table.proofs.clock.nowhere_above.Statement.{statement}
+use Rattle.table.proofs.clock.nowhere_above.Tie as tie
 
 abbrev Inv-loop : tie.InvT-loop
 Inv-loop table at v i₀ i = (i ≤ length v) × Rest table v at i

@@ -11,7 +11,7 @@ use lib.ListN.{take, drop}
 use lib.Seq.{getD-take, drop-drop, take-take}
 use Rattle.model.specs.Limits.{limits, slotSize}
 use Rattle.model.specs.Frames.{word}
-use Rattle.frame.specs.Table.{slotsBefore, slot}
+use Rattle.table.specs.Table.{slotsBefore, slot}
 
 -- two slots are one, or lie apart
 pub apart : (j k i l : ℕ) → k ≤ limits .events → l ≤ limits .events → ((j ≡ i) × (k ≡ l) → ⊥) → (slot j k + slotSize ≤ slot i l) ⊎ (slot i l + slotSize ≤ slot j k)

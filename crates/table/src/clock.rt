@@ -1,5 +1,5 @@
 // The rule for the clock of an event, and the test of one event, which cuts share.
-use crate::table::slot;
+use crate::slot;
 use cells::wide;
 ghost use mathlib.Core.Path.{_≡_};
 ghost use Prim.Native.Nat.{ℕ, _+_, _≤_, _<_};
@@ -7,7 +7,7 @@ ghost use lib.ListN.{length, take, drop, getD};
 ghost use Rattle.model.specs.Limits.{limits, storeSize};
 ghost use Rattle.model.specs.Cut.{inside};
 ghost use Rattle.model.specs.Computation.{Computation, known, counted, clockOk};
-ghost use Rattle.frame.specs.Table.{Stored};
+ghost use Rattle.table.specs.Table.{Stored};
 
 // The event of station j that the clock v of an event of station s counts last: of s itself the one before.
 fn last_counted(s: usize, j: usize, v: &[u8]) -> usize
@@ -54,7 +54,7 @@ pub fn known(v: &[u8], j: usize, k: usize, counts: &[u8; 8], store: &[u8]) -> bo
 }
 
 // Does the clock v fit the next event of station s?
-pub(crate) fn clock_ok(s: usize, v: &[u8], counts: &[u8; 8], store: &[u8]) -> bool
+pub fn clock_ok(s: usize, v: &[u8], counts: &[u8; 8], store: &[u8]) -> bool
     requires { ⌜ (s < length (now v)) × (length (now v) ≤ limits .stations) × (length (now store) ≡ storeSize) ⌝ }
     requires { ⌜ ((i : ℕ) → getD (now counts) i 0 ≤ limits .events) ⌝ }
     ensures { λ r. ⌜ ((K : Computation) → Stored K (length (now (v .entry))) (now (counts .entry)) (now (store .entry)) → r ≡ clockOk K s (now (v .entry))) ⌝ }

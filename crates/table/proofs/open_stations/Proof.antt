@@ -5,10 +5,10 @@ use Prim.Native.Nat.{_≤_, _-_}
 use native.Mathlib.Omega.{arith}
 use lib.ListN.{length}
 use Rattle.model.specs.Limits.{storeSize}
-use Rattle.frame.specs.Header.{Open}
-use Rattle.frame.proofs.Headers.{open-none, open-more, open-all}
-use Rattle.frame.proofs.header.open_stations.Statement.{statement}
-use Rattle.frame.proofs.header.open_stations.Tie as tie
+use Rattle.table.specs.Opening.{Open}
+use Rattle.table.proofs.Openings.{open-none, open-more, open-all}
+use Rattle.table.proofs.open_stations.Statement.{statement}
+use Rattle.table.proofs.open_stations.Tie as tie
 
 abbrev Inv-loop : tie.InvT-loop
 Inv-loop frame n store₀ j₀ store j = (j ≤ n) × (length store ≡ storeSize) × Open frame j store

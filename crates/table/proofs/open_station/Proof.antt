@@ -2,10 +2,10 @@
 use mathlib.Core.Path.{ap, _∙_}
 use Prim.Native.Nat.{ℕ}
 use Rattle.cells.specs.Put.{putOf}
-use Rattle.frame.specs.Header.{opening}
+use Rattle.table.specs.Opening.{opening}
 use borrow.Author.Needs.{needs}
-use Rattle.frame.proofs.header.open_station.Statement.{statement}
-use Rattle.frame.proofs.header.open_station.Tie as tie
+use Rattle.table.proofs.open_station.Statement.{statement}
+use Rattle.table.proofs.open_station.Tie as tie
 
 slot-requires : tie.Need-slot-requires
 slot-requires c κs = search needs

@@ -2,8 +2,8 @@
 use Rattle.model.specs.Computation.{counted}
 use borrow.Author.Tests.{eq-eqb, ne-eqb}
 use borrow.Author.Needs.{needs}
-use Rattle.frame.proofs.clock.last_counted.Statement.{statement}
-use Rattle.frame.proofs.clock.last_counted.Tie as tie
+use Rattle.table.proofs.clock.last_counted.Statement.{statement}
+use Rattle.table.proofs.clock.last_counted.Tie as tie
 
 shared-slice-read-wide : tie.Need-shared-slice-read-wide
 shared-slice-read-wide c = search needs

@@ -7,10 +7,10 @@ use native.Mathlib.Omega.{arith}
 use lib.ListN.{length}
 use Rattle.model.specs.Lists.{every}
 use Rattle.model.specs.Computation.{Computation, known, counted}
-use Rattle.frame.specs.Table.{Stored}
-use Rattle.frame.proofs.Clocks.{every-more, known-not, known-yes, own-wrong, entry-wrong, all-right}
-use Rattle.frame.proofs.clock.clock_ok.Statement.{statement}
-use Rattle.frame.proofs.clock.clock_ok.Tie as tie
+use Rattle.table.specs.Table.{Stored}
+use Rattle.table.proofs.Clocks.{every-more, known-not, known-yes, own-wrong, entry-wrong, all-right}
+use Rattle.table.proofs.clock.clock_ok.Statement.{statement}
+use Rattle.table.proofs.clock.clock_ok.Tie as tie
 
 abbrev Inv-loop : tie.InvT-loop
 Inv-loop s v counts table j₀ j = (j ≤ length v) × ((K : Computation) → Stored K (length v) counts table → every j (λ i. known K v i (counted s v i)) ≡ true)

@@ -1,0 +1,4 @@
+pub mod Parts
+pub mod Slots
+pub mod Clocks
+pub mod Openings
