@@ -1,3 +1,1 @@
 pub mod Operations
-pub mod Entries
-pub mod Writes

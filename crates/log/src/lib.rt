@@ -1,6 +1,4 @@
 // The operations Read and Write.
-mod frames;
-
 use load::Acceptance;
 use model::Log;
 ghost use mathlib.Core.Path.{_≡_};
@@ -69,14 +67,14 @@ pub fn write(list: &[u8], out: &mut [u8]) -> model::WriteAnswer
             line: 0,
         });
     }
-    if !frames::lengths_ok(list) {
+    if !entries::lengths_ok(list) {
         return model::WriteAnswer::Refused(model::Refusal {
             fault: model::Fault::FrameList,
             line: 0,
         });
     }
     let mut store = [0u8; Log::STORE];
-    match frames::try_entries(Log::limits(), list, &mut store) {
+    match entries::try_entries(Log::limits(), list, &mut store) {
         Acceptance::Accepted => {
             if out.len() < Log::BYTES {
                 return model::WriteAnswer::Refused(model::Refusal {
@@ -84,7 +82,7 @@ pub fn write(list: &[u8], out: &mut [u8]) -> model::WriteAnswer
                     line: 0,
                 });
             }
-            let end = frames::put_lines(list, out);
+            let end = entries::put_lines(list, out);
             model::WriteAnswer::Written(end)
         }
         Acceptance::Refused(refusal) => model::WriteAnswer::Refused(refusal),

@@ -25,9 +25,9 @@ use Rattle.frame.specs.declared.Step.the-variants.{Next, Faulty}
 use Rattle.load.specs.declared.Position.{Position}
 use Rattle.frame.specs.State.{Admits}
 use Rattle.load.specs.Loading.{first, Sofar}
-use Rattle.log.specs.Entries.{formed, frames, Formed, entries, Partly, Entered, Allowed}
+use Rattle.entries.specs.Entries.{formed, frames, Formed, entries, Partly, Entered, Allowed}
 use Rattle.load.proofs.Loads.{sofar-of, sofar-more, sofar-ends, sofar-first, bounded-fresh, end-empty, end-all}
-use Rattle.log.proofs.Entries.{Entry, entry-at, taken, entries-end}
+use Rattle.entries.proofs.Entries.{Entry, entry-at, taken, entries-end}
 
 -- READING A LIST
 

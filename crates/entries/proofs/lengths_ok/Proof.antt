@@ -5,10 +5,10 @@ use Prim.Native.Nat.{_≤_, _-_}
 use native.Mathlib.Omega.{arith}
 use lib.ListN.{length, drop}
 use Rattle.model.specs.Frames.{framesOf}
-use Rattle.log.specs.Entries.{formed}
-use Rattle.log.proofs.Entries.{too-low, too-high, past-end, in-form, entries-end}
-use Rattle.log.proofs.frames.lengths_ok.Statement.{statement}
-use Rattle.log.proofs.frames.lengths_ok.Tie as tie
+use Rattle.entries.specs.Entries.{formed}
+use Rattle.entries.proofs.Entries.{too-low, too-high, past-end, in-form, entries-end}
+use Rattle.entries.proofs.lengths_ok.Statement.{statement}
+use Rattle.entries.proofs.lengths_ok.Tie as tie
 
 abbrev Inv-loop : tie.InvT-loop
 Inv-loop list at₀ at = (at ≤ length list) × (formed (framesOf (drop at list)) ≡ formed (framesOf list))

@@ -14,7 +14,7 @@ use Rattle.model.specs.Lists.{between}
 use Rattle.model.specs.Frames.{before, entry, framesOf}
 use Rattle.codec.proofs.Cases.{between-true, between-in}
 use Rattle.codec.proofs.Frames.{frames-none, frames-entry}
-use Rattle.log.specs.Entries.{formed, frames, Formed, entries}
+use Rattle.entries.specs.Entries.{formed, frames, Formed, entries}
 
 formed-before : (f : List ℕ) (o : Option (List (List ℕ))) → formed (before f o) ≡ formed o
 unfolding before

@@ -1,11 +1,11 @@
 -- The entry at p has its form, so its frame can be lent; the step follows from what `admit` ensures. Assumes nothing.
 use native.Mathlib.Omega.{arith}
 use lib.ListN.{length-take, length-drop}
-use Rattle.log.proofs.Entries.{Entry}
-use Rattle.log.proofs.Writes.{here, part, entered-next, entered-ends}
+use Rattle.entries.proofs.Entries.{Entry}
+use Rattle.entries.proofs.Writes.{here, part, entered-next, entered-ends}
 use borrow.Author.Needs.{needs}
-use Rattle.log.proofs.frames.try_entry.Statement.{statement}
-use Rattle.log.proofs.frames.try_entry.Tie as tie
+use Rattle.entries.proofs.try_entry.Statement.{statement}
+use Rattle.entries.proofs.try_entry.Tie as tie
 
 shared-slice-read-wide : tie.Need-shared-slice-read-wide
 shared-slice-read-wide c = search needs

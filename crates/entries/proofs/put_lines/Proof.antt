@@ -3,10 +3,10 @@ use borrow.Author.Needs.{needs}
 use Prim.Native.Nat.{_-_}
 use native.Mathlib.Omega.{arith}
 use lib.ListN.{length, length-take, length-drop}
-use Rattle.log.proofs.Entries.{Entry}
-use Rattle.log.proofs.Writes.{Lined, lined-none, entry, part, room, lined-more, lined-length, lined-all}
-use Rattle.log.proofs.frames.put_lines.Statement.{statement}
-use Rattle.log.proofs.frames.put_lines.Tie as tie
+use Rattle.entries.proofs.Entries.{Entry}
+use Rattle.entries.proofs.Writes.{Lined, lined-none, entry, part, room, lined-more, lined-length, lined-all}
+use Rattle.entries.proofs.put_lines.Statement.{statement}
+use Rattle.entries.proofs.put_lines.Tie as tie
 
 abbrev Inv-loop : tie.InvT-loop
 Inv-loop list out₀ from₀ end₀ out from end = Lined list out₀ out from end

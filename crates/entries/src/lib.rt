@@ -1,4 +1,4 @@
-// The frames of a frame list.
+// The entries of a frame list: their lengths tested, their frames tried one after the other, their lines written.
 use cells::wide;
 use frame::Step;
 use load::Acceptance;
@@ -12,10 +12,10 @@ ghost use Rattle.model.specs.Limits.{limits, storeSize};
 ghost use Rattle.model.specs.Frames.{framesOf, logOf};
 ghost use Rattle.codec.specs.Limits.{NoLarger};
 ghost use Rattle.cells.specs.Put.{putOf};
-ghost use Rattle.log.specs.Entries.{formed, Formed, entries, Partly, Entered, Tried};
+ghost use Rattle.entries.specs.Entries.{formed, Formed, entries, Partly, Entered, Tried};
 
 // Is each length from 1 to 99, and no frame past the end?
-pub(crate) fn lengths_ok(list: &[u8]) -> bool
+pub fn lengths_ok(list: &[u8]) -> bool
     ensures { λ r. ⌜ r ≡ formed (framesOf (now (list .entry))) ⌝ }
 {
     let mut at = 0;
@@ -70,7 +70,7 @@ fn try_entry(m: model::Limits, list: &[u8], p: Position, store: &mut [u8]) -> Tu
 }
 
 // Tries all frames of a list.
-pub(crate) fn try_entries(m: model::Limits, list: &[u8], store: &mut [u8]) -> Acceptance
+pub fn try_entries(m: model::Limits, list: &[u8], store: &mut [u8]) -> Acceptance
     requires { ⌜ NoLarger m limits × Formed (now list) ⌝ }
     requires { ⌜ (length (now list) ≤ m .list) × (length (now store) ≡ storeSize) ⌝ }
     ensures { λ r. ⌜ Tried m r (now (list .entry)) ⌝ }
@@ -103,7 +103,7 @@ pub(crate) fn try_entries(m: model::Limits, list: &[u8], store: &mut [u8]) -> Ac
 }
 
 // Writes the lines of all frames of a list; hands back where they end.
-pub(crate) fn put_lines(list: &[u8], out: &mut [u8]) -> usize
+pub fn put_lines(list: &[u8], out: &mut [u8]) -> usize
     requires { ⌜ Formed (now list) ⌝ }
     requires { ⌜ length (logOf (entries (now list))) ≤ length (now out) ⌝ }
     ensures { λ r. ⌜ r ≡ length (logOf (entries (now (list .entry)))) ⌝ }

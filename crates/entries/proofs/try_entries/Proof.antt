@@ -5,10 +5,10 @@ use Prim.Native.Nat.{_-_, _<_}
 use native.Mathlib.Omega.{arith}
 use lib.ListN.{length}
 use Rattle.model.specs.Limits.{storeSize}
-use Rattle.log.specs.Entries.{Partly}
-use Rattle.log.proofs.Writes.{partly-start, step-next, step-faulty, tried-empty, tried-all}
-use Rattle.log.proofs.frames.try_entries.Statement.{statement}
-use Rattle.log.proofs.frames.try_entries.Tie as tie
+use Rattle.entries.specs.Entries.{Partly}
+use Rattle.entries.proofs.Writes.{partly-start, step-next, step-faulty, tried-empty, tried-all}
+use Rattle.entries.proofs.try_entries.Statement.{statement}
+use Rattle.entries.proofs.try_entries.Tie as tie
 
 abbrev Inv-loop : tie.InvT-loop
 Inv-loop m list store₀ p₀ store p = Partly m list p store × (length store ≡ storeSize)
