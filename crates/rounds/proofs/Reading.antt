@@ -16,7 +16,7 @@ use Rattle.lattice.proofs.Consistency.{same-cut}
 use Rattle.lattice.proofs.Bases.{In, Good}
 use Rattle.lattice.proofs.Shortcuts.{raise-row, raised, came, settle, afterRight, afterLeft, unlessSame, nextLeft}
 use Rattle.slots.specs.Slots.{Small, Coded, Says}
-use Rattle.slots.proofs.Numbers.{says-none, says-some, coded-same, cells-same}
+use Rattle.numbering.proofs.Numbers.{says-none, says-some, coded-same, cells-same}
 use Rattle.rounds.specs.Said.{Above, Both, reading, Answers}
 use Rattle.rounds.specs.declared.Round.the-variants.{Raised, Lost}
 use Rattle.rounds.specs.declared.RoundResult.{RoundResult}

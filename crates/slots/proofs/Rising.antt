@@ -13,7 +13,7 @@ use Rattle.model.specs.Basis.{thenRight}
 use Rattle.cells.proofs.Cuts.{join-zeros}
 use Rattle.structure.proofs.Raising.{raise-absorbs}
 use Rattle.slots.specs.Slots.{number, Small, Coded, Says, Slots}
-use Rattle.slots.proofs.Numbers.{join-says, says-none}
+use Rattle.numbering.proofs.Numbers.{join-says, says-none}
 
 -- Stations that are not there add nothing.
 raise-more : (S : Structure) (x : Cut) (k : ℕ) → raiseBy S x (k + length x) ≡ raiseBy S x (length x)

@@ -1,14 +1,14 @@
--- `slots::put_many` meets its contract: after k rows they stand in the table.
+-- `numbering::put_many` meets its contract: after k rows they stand in the table.
 use mathlib.Core.Path.{_≡_, _∙_}
 use Prim.Native.Nat.{_+_, _-_, _≤_}
 use native.Mathlib.Nat.{mul-le-mul-right}
 use native.Mathlib.Omega.{arith}
 use lib.ListN.{length}
-use Rattle.slots.specs.Slots.{Copied}
-use Rattle.slots.proofs.Copies.{coding-fits, copied-more}
+use Rattle.numbering.specs.Rows.{Copied}
+use Rattle.numbering.proofs.Copies.{coding-fits, copied-more}
 use borrow.Author.Needs.{needs}
-use Rattle.slots.proofs.put_many.Statement.{statement}
-use Rattle.slots.proofs.put_many.Tie as tie
+use Rattle.numbering.proofs.put_many.Statement.{statement}
+use Rattle.numbering.proofs.put_many.Tie as tie
 
 abbrev Inv-loop : tie.InvT-loop
 Inv-loop table₀ ws at n e code k₀ table k = (k ≤ e + 1) × (length table ≡ 2048) × Copied code n ws at k table

@@ -1,8 +1,8 @@
--- `slots::put_rows` meets its contract: the rows copied are those of the structure.
-use Rattle.slots.proofs.Copies.{table-is}
+-- `numbering::put_rows` meets its contract: the rows copied are those of the structure.
+use Rattle.numbering.proofs.Copies.{table-is}
 use borrow.Author.Needs.{needs}
-use Rattle.slots.proofs.put_rows.Statement.{statement}
-use Rattle.slots.proofs.put_rows.Tie as tie
+use Rattle.numbering.proofs.put_rows.Statement.{statement}
+use Rattle.numbering.proofs.put_rows.Tie as tie
 
 mul-if1 : tie.Need-mul-if1
 mul-if1 c = search needs

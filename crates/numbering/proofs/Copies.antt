@@ -15,8 +15,8 @@ use Rattle.cells.proofs.Parts.{cell-same, paste-front, paste-part}
 use Rattle.structure.proofs.Rows.{decoded-some, decoded-is}
 use Rattle.lattice.proofs.Sums.{total-take}
 use Rattle.lattice.proofs.Consistency.{full-at}
-use Rattle.slots.specs.Slots.{number, numbered, Small, Coded, Says, Slots, Rows, Coding, Offsets, Put, Copied}
-use Rattle.slots.proofs.Numbers.{number-le, number-zero, number-first, past-zero, first-some}
+use Rattle.numbering.specs.Rows.{number, numbered, Small, Coded, Says, Slots, Rows, Coding, Offsets, Put, Copied}
+use Rattle.numbering.proofs.Numbers.{number-le, number-zero, number-first, past-zero, first-some}
 
 -- A turn of a loop that writes f cell by cell.
 pub fill-more : (f : ℕ → ℕ) (t : List ℕ) (i v : ℕ) → i < length t → ((k : ℕ) → k < i → getD t k 0 ≡ f k) → v ≡ f i → (k : ℕ) → k < i + 1 → getD (set t i v) k 0 ≡ f k

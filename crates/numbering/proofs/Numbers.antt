@@ -13,7 +13,7 @@ use Rattle.model.specs.Structure.{joined}
 use Rattle.lattice.proofs.Sums.{total-take}
 use Rattle.lattice.proofs.Cuts.{join-at}
 use Rattle.lattice.proofs.Consistency.{full-at, join-consistent}
-use Rattle.slots.specs.Slots.{number, Small, Coded, Says}
+use Rattle.numbering.specs.Rows.{number, Small, Coded, Says}
 
 module _ (K : Computation) (j : ℕ) where
   number-max : (a b : ℕ) → number K j (max a b) ≡ max (number K j a) (number K j b)

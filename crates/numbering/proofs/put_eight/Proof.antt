@@ -1,13 +1,13 @@
--- `slots::put_eight` meets its contract: after i cells each is numbered.
+-- `numbering::put_eight` meets its contract: after i cells each is numbered.
 use mathlib.Core.Path.{_≡_, refl, _∙_}
 use Prim.Native.Nat.{ℕ, _+_, _-_, _≤_, _<_}
 use native.Mathlib.Omega.{arith}
 use lib.ListN.{length, getD, length-set}
-use Rattle.slots.specs.Slots.{numbered}
-use Rattle.slots.proofs.Copies.{fill-more, copied-cells, copied-front}
+use Rattle.numbering.specs.Rows.{numbered}
+use Rattle.numbering.proofs.Copies.{fill-more, copied-cells, copied-front}
 use borrow.Author.Needs.{needs}
-use Rattle.slots.proofs.put_eight.Statement.{statement}
-use Rattle.slots.proofs.put_eight.Tie as tie
+use Rattle.numbering.proofs.put_eight.Statement.{statement}
+use Rattle.numbering.proofs.put_eight.Tie as tie
 
 abbrev Inv-loop : tie.InvT-loop
 Inv-loop table to ws at code t₀ i₀ t i = (i ≤ 8) × (length t ≡ 8) × ((k : ℕ) → k < i → getD t k 0 ≡ numbered (getD code k 0) (getD code (8 + k) 0) (getD ws (at + k) 0))

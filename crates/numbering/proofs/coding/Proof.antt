@@ -1,10 +1,10 @@
--- `slots::coding` meets its contract: after i stations their cells stand, and the others are 0.
+-- `numbering::coding` meets its contract: after i stations their cells stand, and the others are 0.
 use Prim.Native.Nat.{_-_, _≤_}
 use native.Mathlib.Omega.{arith}
-use Rattle.slots.proofs.Copies.{Begun, begun-none, begun-more, begun-all}
+use Rattle.numbering.proofs.Copies.{Begun, begun-none, begun-more, begun-all}
 use borrow.Author.Needs.{needs}
-use Rattle.slots.proofs.coding.Statement.{statement}
-use Rattle.slots.proofs.coding.Tie as tie
+use Rattle.numbering.proofs.coding.Statement.{statement}
+use Rattle.numbering.proofs.coding.Tie as tie
 
 abbrev Inv-loop : tie.InvT-loop
 Inv-loop n offs code₀ i₀ code i = (i ≤ n) × Begun offs code i

@@ -1,12 +1,12 @@
--- `slots::put_counts` meets its contract: after i cells each is a count; then n or eight of them are copied.
+-- `numbering::put_counts` meets its contract: after i cells each is a count; then n or eight of them are copied.
 use mathlib.Core.Path.{_≡_, refl, _∙_}
 use Prim.Native.Nat.{ℕ, _+_, _-_, _≤_, _<_}
 use native.Mathlib.Omega.{arith}
 use lib.ListN.{length, getD, length-set}
-use Rattle.slots.proofs.Copies.{fill-more, copied-cells, copied-front, counts-are}
+use Rattle.numbering.proofs.Copies.{fill-more, copied-cells, copied-front, counts-are}
 use borrow.Author.Needs.{needs}
-use Rattle.slots.proofs.put_counts.Statement.{statement}
-use Rattle.slots.proofs.put_counts.Tie as tie
+use Rattle.numbering.proofs.put_counts.Statement.{statement}
+use Rattle.numbering.proofs.put_counts.Tie as tie
 
 abbrev Inv-loop : tie.InvT-loop
 Inv-loop ws at n cut code t₀ i₀ t i = (i ≤ 8) × (length t ≡ 8) × ((k : ℕ) → k < i → getD t k 0 ≡ getD cut k 0 - getD code (8 + k) 0)
