@@ -1,10 +1,10 @@
 // The entries of a frame list: their lengths tested, their frames tried one after the other, their lines written.
+use admit::admit;
 use cells::wide;
 use frame::Step;
 use load::Acceptance;
 use load::Position;
 use load::Turn;
-use load::admit;
 ghost use mathlib.Core.Path.{_≡_};
 ghost use Prim.Native.Nat.{_+_, _≤_, _<_};
 ghost use lib.ListN.{length};

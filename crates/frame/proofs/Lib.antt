@@ -1,4 +1,3 @@
 pub mod Steps
 pub mod Headers
-pub mod Events
 pub mod Questions

@@ -1,5 +1,4 @@
-// One frame of each kind, tried after what has been read into a state and a store.
-pub mod event;
+// What has been read, as a state, and the header and the question, tried after it.
 pub mod header;
 pub mod question;
 
@@ -42,7 +41,7 @@ impl State {
     }
 
     // One more event of station j has been read.
-    pub(crate) fn with_event(self, j: usize) -> State
+    pub fn with_event(self, j: usize) -> State
         requires { ⌜ Bounded limits self ⌝ }
         requires { ⌜ (j < self .stations) × (self .events < limits .events) ⌝ }
         ensures { λ r. ⌜ r ≡ afterEvent self j ⌝ }

@@ -3,7 +3,7 @@ use crate::Acceptance;
 use crate::Loaded;
 use crate::Position;
 use crate::Turn;
-use crate::admit;
+use admit::admit;
 use frame::Step;
 ghost use mathlib.Core.Path.{_≡_};
 ghost use mathlib.Core.List.{_∷_};

@@ -2,8 +2,8 @@
 use Rattle.model.specs.declared.Fault.the-variants.{Kind}
 use Rattle.frame.proofs.Steps.{turned, kind-unknown}
 use borrow.Author.Needs.{needs}
-use Rattle.load.proofs.admit.Statement.{statement}
-use Rattle.load.proofs.admit.Tie as tie
+use Rattle.admit.proofs.admit.Statement.{statement}
+use Rattle.admit.proofs.admit.Tie as tie
 
 shared-slice-read-kind : tie.Need-shared-slice-read-kind
 shared-slice-read-kind c = search needs

@@ -1,8 +1,8 @@
 // The event frame.
-use crate::Admitted;
-use crate::State;
-use crate::Step;
 use cells::wide;
+use frame::Admitted;
+use frame::State;
+use frame::Step;
 use table::clock::clock_ok;
 use table::slot;
 ghost use mathlib.Core.Path.{_≡_};
@@ -29,7 +29,7 @@ fn add_event(s: State, j: usize, bytes: &[u8], store: &mut [u8]) -> State
 }
 
 // Admits an event, within the limits m.
-pub fn event(m: model::Limits, s: State, frame: &[u8], store: &mut [u8]) -> Admitted
+pub(crate) fn event(m: model::Limits, s: State, frame: &[u8], store: &mut [u8]) -> Admitted
     requires { ⌜ NoLarger m limits × Bounded m s ⌝ }
     requires { ⌜ (1 ≤ length (now frame)) × (getD (now frame) 0 0 ≡ 32) × (length (now store) ≡ storeSize) ⌝ }
     ensures { λ r. ⌜ Admits m s (now (frame .entry)) (now (store .entry)) r (now (store .exit)) ⌝ }

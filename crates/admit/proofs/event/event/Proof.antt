@@ -9,12 +9,12 @@ use Rattle.model.specs.declared.Fault.the-variants.{Kind, Event, Clock}
 use Rattle.model.specs.Computation.{Computation, clockOk}
 use Rattle.model.specs.Reading.{Reading}
 use Rattle.table.specs.Table.{Stored}
 use Rattle.frame.specs.State.{Represents}
 use Rattle.frame.proofs.Steps.{Frame, turned, bounded-up}
-use Rattle.frame.proofs.Events.{before-header, after-question, too-many, wrong-length, no-station, clock-wrong, tested, event-next}
+use Rattle.admit.proofs.Events.{before-header, after-question, too-many, wrong-length, no-station, clock-wrong, tested, event-next}
 use borrow.Author.Needs.{needs}
-use Rattle.frame.proofs.event.event.Statement.{statement}
-use Rattle.frame.proofs.event.event.Tie as tie
+use Rattle.admit.proofs.event.event.Statement.{statement}
+use Rattle.admit.proofs.event.event.Tie as tie
 
 -- the frame, after whatever the state and the store represent
 framed : (c : tie.Start) (r : Reading) → Represents r (c .args .s) (c .args .store .now) → Frame 0x20 r (c .args .s) (c .args .frame .now) (c .args .store .now)

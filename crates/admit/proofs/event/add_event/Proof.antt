@@ -5,8 +5,8 @@ use Rattle.cells.specs.Put.{putOf}
 use Rattle.table.specs.Table.{slot}
 use native.Mathlib.Omega.{arith}
 use borrow.Author.Needs.{needs}
-use Rattle.frame.proofs.event.add_event.Statement.{statement}
-use Rattle.frame.proofs.event.add_event.Tie as tie
+use Rattle.admit.proofs.event.add_event.Statement.{statement}
+use Rattle.admit.proofs.event.add_event.Tie as tie
 
 array-read-wide : tie.Need-array-read-wide
 array-read-wide c = search needs
