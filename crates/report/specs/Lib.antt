@@ -1,3 +1,0 @@
-pub mod Cuts
-pub mod Stands
-pub mod Written
