@@ -12,6 +12,7 @@ pub mod Accepted
 pub mod QuestionFrames
 pub mod Lawful
 pub mod Readings
+pub mod Refusals
 pub mod Sizes
 pub mod RoundTrip
 pub mod Operations

@@ -3,12 +3,26 @@ use Prim.Native.Nat.{ℕ, _+_, _*_, _^_}
 use mathlib.Core.List.{List, [], _∷_}
 use Rattle.model.specs.Reply.{Reply, gives, refuses}
 
--- Values stand one after another, the first in the lowest byte; the last may take several.
-unfoldable pub pack : List ℕ → ℕ
-pack [] = 0
-pack (v ∷ l) = v + 256 * pack l
+-- Values stand one after another from the lowest bit on, each in as many bits as are given for it.
+unfoldable pub pack : List ℕ → List ℕ → ℕ
+pack [] values = 0
+pack (w ∷ widths) [] = 0
+pack (w ∷ widths) (v ∷ values) = pack widths values * 2 ^ w + v
 
--- A refusal has its number in the highest byte, and its line below.
-unfoldable pub packed : Reply → ℕ
-packed (gives values) = pack values
-packed (refuses k n) = k * 2 ^ 56 + n
+-- A refusal has its number in the highest five bits, and its line below.
+unfoldable pub packed : List ℕ → Reply → ℕ
+packed widths (gives values) = pack widths values
+packed widths (refuses k n) = k * 2 ^ 59 + n
+
+-- Read's counts of stations, events and questions and the list's length; the length of what Write or Answer wrote; Holds' yes or no.
+abbrev pub readWidths : List ℕ
+readWidths = 8 ∷ 8 ∷ 8 ∷ 16 ∷ []
+
+abbrev pub writeWidths : List ℕ
+writeWidths = 16 ∷ []
+
+abbrev pub answerWidths : List ℕ
+answerWidths = 16 ∷ []
+
+abbrev pub holdsWidths : List ℕ
+holdsWidths = 1 ∷ []

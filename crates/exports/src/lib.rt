@@ -6,21 +6,21 @@ use model::ReadAnswer;
 use model::Refusal;
 use model::WriteAnswer;
 ghost use mathlib.Core.Path.{_≡_};
-ghost use Prim.Native.Nat.{_+_, _≤_, _<_};
-ghost use mathlib.Core.List.{[], _∷_};
+ghost use Prim.Native.Nat.{ℕ, _+_, _^_, _≤_, _<_};
+ghost use mathlib.Core.List.{List, [], _∷_};
 ghost use lib.ListN.{length};
 ghost use Rattle.model.specs.Limits.{limits};
 ghost use Rattle.model.specs.Reply.{gives, refusal};
 ghost use Rattle.model.specs.Operations.{readOp, writeOp, answerOp, holdsOp, Kept};
-ghost use Rattle.exports.specs.Packed.{packed};
+ghost use Rattle.exports.specs.Packed.{packed, readWidths, writeWidths, answerWidths, holdsWidths};
 
-// One in the highest byte.
-const HIGHEST: u64 = 0x0100_0000_0000_0000;
+// One in the highest five bits.
+const HIGHEST: u64 = 0x0800_0000_0000_0000;
 
-// A refusal: its number in the highest byte, its line below.
+// A refusal: its number in the highest five bits, its line below.
 fn packed_refusal(r: Refusal) -> u64
     requires { ⌜ r .line ≤ limits .bytes + 1 ⌝ }
-    ensures { λ v. ⌜ v ≡ packed (refusal r) ⌝ }
+    ensures { λ v. ⌜ ((widths : List ℕ) → v ≡ packed widths (refusal r)) ⌝ }
 {
     let f = r.fault;
     f.number() as u64 * HIGHEST + r.line as u64
@@ -28,8 +28,8 @@ fn packed_refusal(r: Refusal) -> u64
 
 // Read's four values, the first in the lowest byte.
 fn packed_counts(l: Log) -> u64
-    requires { ⌜ (l .stations < 256) × (l .events < 256) × (l .questions < 256) × (l .list ≤ limits .bytes) ⌝ }
-    ensures { λ v. ⌜ v ≡ packed (gives (l .stations ∷ l .events ∷ l .questions ∷ l .list ∷ [])) ⌝ }
+    requires { ⌜ (l .stations < 2 ^ 8) × (l .events < 2 ^ 8) × (l .questions < 2 ^ 8) × (l .list < 2 ^ 16) ⌝ }
+    ensures { λ v. ⌜ v ≡ packed readWidths (gives (l .stations ∷ l .events ∷ l .questions ∷ l .list ∷ [])) ⌝ }
 {
     l.stations as u64 + 256 * (l.events as u64 + 256 * (l.questions as u64 + 256 * (l.list as u64)))
 }
@@ -37,7 +37,7 @@ fn packed_counts(l: Log) -> u64
 // Read: the counts of stations, events and questions and the list's length, or a refusal.
 #[no_mangle]
 pub extern "C" fn moment_read(log: &[u8], out: &mut [u8]) -> u64
-    ensures { λ v. ⌜ v ≡ packed (readOp limits (now (log .entry)) (now (out .entry)) .reply) ⌝ }
+    ensures { λ v. ⌜ v ≡ packed readWidths (readOp limits (now (log .entry)) (now (out .entry)) .reply) ⌝ }
     ensures { λ _. ⌜ now (out .exit) ≡ readOp limits (now (log .entry)) (now (out .entry)) .output ⌝ }
 {
     match log::read(log, out) {
@@ -49,7 +49,7 @@ pub extern "C" fn moment_read(log: &[u8], out: &mut [u8]) -> u64
 // Write: the log's length, or a refusal.
 #[no_mangle]
 pub extern "C" fn moment_write(list: &[u8], out: &mut [u8]) -> u64
-    ensures { λ v. ⌜ v ≡ packed (writeOp limits (now (list .entry)) (now (out .entry)) .reply) ⌝ }
+    ensures { λ v. ⌜ v ≡ packed writeWidths (writeOp limits (now (list .entry)) (now (out .entry)) .reply) ⌝ }
     ensures { λ _. ⌜ now (out .exit) ≡ writeOp limits (now (list .entry)) (now (out .entry)) .output ⌝ }
 {
     match log::write(list, out) {
@@ -67,12 +67,12 @@ pub extern "C" fn moment_answer(
     bs: &mut [u8],
     out: &mut [u8],
 ) -> u64
-    ensures { λ v. ⌜ v ≡ packed (answerOp limits (now (log .entry)) question (length (now (ws .entry))) (length (now (bs .entry))) (now (out .entry)) .reply) ⌝ }
+    ensures { λ v. ⌜ v ≡ packed answerWidths (answerOp limits (now (log .entry)) question (length (now (ws .entry))) (length (now (bs .entry))) (now (out .entry)) .reply) ⌝ }
     ensures { λ _. ⌜ now (out .exit) ≡ answerOp limits (now (log .entry)) question (length (now (ws .entry))) (length (now (bs .entry))) (now (out .entry)) .output ⌝ }
     ensures { λ _. ⌜ Kept (answerOp limits (now (log .entry)) question (length (now (ws .entry))) (length (now (bs .entry))) (now (out .entry)) .reply) (now (ws .entry)) (now (ws .exit)) ⌝ }
     ensures { λ _. ⌜ Kept (answerOp limits (now (log .entry)) question (length (now (ws .entry))) (length (now (bs .entry))) (now (out .entry)) .reply) (now (bs .entry)) (now (bs .exit)) ⌝ }
 {
-    match finder::answer(log, question, ws, bs, out) {
+    match answer::answer(log, question, ws, bs, out) {
         LineAnswer::Written(n) => n as u64,
         LineAnswer::Refused(r) => packed_refusal(r),
     }
@@ -87,11 +87,11 @@ pub extern "C" fn moment_holds(
     ws: &mut [u8],
     bs: &mut [u8],
 ) -> u64
-    ensures { λ v. ⌜ v ≡ packed (holdsOp limits (now (log .entry)) question (now (cut .entry)) (length (now (ws .entry))) (length (now (bs .entry)))) ⌝ }
+    ensures { λ v. ⌜ v ≡ packed holdsWidths (holdsOp limits (now (log .entry)) question (now (cut .entry)) (length (now (ws .entry))) (length (now (bs .entry)))) ⌝ }
     ensures { λ _. ⌜ Kept (holdsOp limits (now (log .entry)) question (now (cut .entry)) (length (now (ws .entry))) (length (now (bs .entry)))) (now (ws .entry)) (now (ws .exit)) ⌝ }
     ensures { λ _. ⌜ Kept (holdsOp limits (now (log .entry)) question (now (cut .entry)) (length (now (ws .entry))) (length (now (bs .entry)))) (now (bs .entry)) (now (bs .exit)) ⌝ }
 {
-    match finder::holds(log, question, cut, ws, bs) {
+    match holds::holds(log, question, cut, ws, bs) {
         HoldsAnswer::Yes => 1,
         HoldsAnswer::No => 0,
         HoldsAnswer::Refused(r) => packed_refusal(r),

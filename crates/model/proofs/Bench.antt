@@ -25,7 +25,7 @@ use Rattle.model.specs.Answer.{notInside, add, tops, precedes, insert, s
 use Rattle.model.specs.Reading.{begun, check, headerForm, opened, admitHeader, eventForm, extended, unasked, admitEvent, asked, admitQuestion, admit, finish, proceed, readItems, readLog}
 use Rattle.model.specs.Reply.{Reply, gives, refuses}
 use Rattle.model.specs.Promise.{Asked}
-use Rattle.model.specs.Operations.{readEffect, readOp, cramped, cutReply, holdsReplyTo, holdsOp, answerLines, printedOf, printed}
+use Rattle.model.specs.Operations.{readEffect, readOp, posing, openingOf, opening, cramped, holdsReplyTo, holdsOp, answerLines, printedOf, printed}
 
 -- The bytes of a text.
 pub ascii : String → List ℕ
@@ -70,7 +70,7 @@ three-ways = or (range 0 5 5) two-ways
 
 -- All that is computed with: to unfold this is to unfold what its line names.
 definitions : Unit {0}
-unfolding ascii range bench Q asking holdsAt two-ways three-ways sum between every push linesOf digit byte bytes carried items hexDigit hex checkByte line word words listOf atomBytes operands atomOf soundAtom next upTo raiseTo passes raiseAtom prefix ahead one two sign token spelt formulasIn single formulaOf sound weigh inside insideAny join clock value known isConsistent counted clockOk asTrue asFalse width bars slim narrow fits row joined raiseBy raise reaches inSet belongs belongsAny joinRow joinRows greatest keep buildOn build thenRight round onward after run start intersect each pairs below lowered barred basis roundsOfPair roundsOfPairs rounds notInside add tops precedes insert sort trueAt answer inRow fourBytes answerLine refusalLine begun check headerForm opened admitHeader eventForm extended unasked admitEvent asked admitQuestion admit finish proceed readItems readLog readEffect readOp cramped cutReply holdsReplyTo holdsOp answerLines printedOf printed
+unfolding ascii range bench Q asking holdsAt two-ways three-ways sum between every push linesOf digit byte bytes carried items hexDigit hex checkByte line word words listOf atomBytes operands atomOf soundAtom next upTo raiseTo passes raiseAtom prefix ahead one two sign token spelt formulasIn single formulaOf sound weigh inside insideAny join clock value known isConsistent counted clockOk asTrue asFalse width bars slim narrow fits row joined raiseBy raise reaches inSet belongs belongsAny joinRow joinRows greatest keep buildOn build thenRight round onward after run start intersect each pairs below lowered barred basis roundsOfPair roundsOfPairs rounds notInside add tops precedes insert sort trueAt answer inRow fourBytes answerLine refusalLine begun check headerForm opened admitHeader eventForm extended unasked admitEvent asked admitQuestion admit finish proceed readItems readLog readEffect readOp posing openingOf opening cramped holdsReplyTo holdsOp answerLines printedOf printed
 definitions = tt
 
 -- The twelve cases marked *.

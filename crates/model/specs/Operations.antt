@@ -46,40 +46,51 @@ readEffect m (accepted r) out =
 unfoldable pub readOp : Limits → List ℕ → List ℕ → Effect
 readOp m log out = readEffect m (readLog m log) out
 
--- ANSWER
+-- A QUESTION OF A LOG
+
+-- A log is opened for one of its questions: a refusal shuts it, or it poses the question of its computation.
+pub data Opening : Type 0 where
+  shut : ℕ → ℕ → Opening
+  poses : Computation → Formula → Opening
+
+unfoldable pub posing : Computation → Option Formula → Opening
+posing K none = shut 10 0
+posing K (some f) = poses K f
+
+unfoldable pub openingOf : Result → ℕ → Opening
+openingOf (refused k n) q = shut k n
+openingOf (accepted r) q = posing (r .computation) (getElem? (r .questions) q)
+
+-- limits, log, question number
+unfoldable pub opening : Limits → List ℕ → ℕ → Opening
+opening m log q = openingOf (readLog m log) q
 
 -- The workspace or the bar space is too small.
 unfoldable pub cramped : ℕ → ℕ → Bool
 cramped ws bs = ltb ws workspaceSize || ltb bs barspaceSize
 
+-- ANSWER
+
 unfoldable pub lineEffect : List ℕ → List ℕ → Effect
 lineEffect l out = cond (ltb (length out) lineSize) (refuse 12 0 out) (write (length l ∷ []) l out)
 
-unfoldable pub questionEffect : Computation → Option Formula → ℕ → ℕ → List ℕ → Effect
-questionEffect K none ws bs out = refuse 10 0 out
-questionEffect K (some f) ws bs out = cond (cramped ws bs) (refuse 11 0 out) (lineEffect (answerLine (answer K f)) out)
-
-unfoldable pub answerEffect : Result → ℕ → ℕ → ℕ → List ℕ → Effect
-answerEffect (refused k n) q ws bs out = refuse k n out
-answerEffect (accepted r) q ws bs out = questionEffect (r .computation) (getElem? (r .questions) q) ws bs out
+unfoldable pub answerEffect : Opening → ℕ → ℕ → List ℕ → Effect
+answerEffect (shut k n) ws bs out = refuse k n out
+answerEffect (poses K f) ws bs out = cond (cramped ws bs) (refuse 11 0 out) (lineEffect (answerLine (answer K f)) out)
 
 -- limits, log, question number, sizes of workspace and bar space, output
 unfoldable pub answerOp : Limits → List ℕ → ℕ → ℕ → ℕ → List ℕ → Effect
-answerOp m log q ws bs out = answerEffect (readLog m log) q ws bs out
+answerOp m log q ws bs out = answerEffect (opening m log q) ws bs out
 
 -- HOLDS
 
-unfoldable pub cutReply : Computation → Option Formula → Cut → ℕ → ℕ → Reply
-cutReply K none c ws bs = refuses 10 0
-cutReply K (some f) c ws bs = cond (isConsistent K c) (cond (cramped ws bs) (refuses 11 0) (gives (yesNo (trueAt K f c) ∷ []))) (refuses 13 0)
-
-unfoldable pub holdsReplyTo : Result → ℕ → Cut → ℕ → ℕ → Reply
-holdsReplyTo (refused k n) q c ws bs = refuses k n
-holdsReplyTo (accepted r) q c ws bs = cutReply (r .computation) (getElem? (r .questions) q) c ws bs
+unfoldable pub holdsReplyTo : Opening → Cut → ℕ → ℕ → Reply
+holdsReplyTo (shut k n) c ws bs = refuses k n
+holdsReplyTo (poses K f) c ws bs = cond (isConsistent K c) (cond (cramped ws bs) (refuses 11 0) (gives (yesNo (trueAt K f c) ∷ []))) (refuses 13 0)
 
 -- limits, log, question number, cut, sizes of workspace and bar space
 unfoldable pub holdsOp : Limits → List ℕ → ℕ → Cut → ℕ → ℕ → Reply
-holdsOp m log q c ws bs = holdsReplyTo (readLog m log) q c ws bs
+holdsOp m log q c ws bs = holdsReplyTo (opening m log q) c ws bs
 
 -- WRITE
 

@@ -4,14 +4,12 @@ pub mod frames;
 use model::Log;
 use structure::Shape;
 ghost use mathlib.Core.Path.{_≡_};
-ghost use mathlib.Core.List.{[], _∷_};
 ghost use Prim.Native.Nat.{_≤_};
 ghost use lib.ListN.{length};
 ghost use Rattle.model.specs.Limits.{barspaceSize, lineSize};
 ghost use Rattle.model.specs.Formula.{Formula};
 ghost use Rattle.model.specs.Computation.{Computation};
-ghost use Rattle.model.specs.Answer.{trueAt, answer, yesNo, answerLine};
-ghost use Rattle.model.specs.Reply.{gives, holdsReply};
+ghost use Rattle.model.specs.Answer.{trueAt, answer, answerLine};
 ghost use Rattle.listing.specs.Worked.{Worked};
 ghost use Rattle.line.specs.AtFront.{AtFront};
 ghost use Rattle.question.specs.Questions.{Question, cellsHeld};
@@ -79,15 +77,4 @@ pub fn true_at(
 {
     let basis = work_out(q, x, starts, facts, ws, bs);
     belongs(ws, bs, basis, x, cut)
-}
-
-// What Holds says of a cut.
-pub fn told(yes: bool) -> model::HoldsAnswer
-    ensures { λ r. ⌜ holdsReply r ≡ gives (yesNo yes ∷ []) ⌝ }
-{
-    if yes {
-        model::HoldsAnswer::Yes
-    } else {
-        model::HoldsAnswer::No
-    }
 }

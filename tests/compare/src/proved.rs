@@ -35,9 +35,9 @@ library! {
 /// Values, or a refusal's number and line.
 pub type Reply<T> = Result<T, (u8, u32)>;
 
-/// A refusal has its number in the highest byte of the reply and its line in the lower half.
+/// A refusal has its number in the highest five bits of the reply and its line in the lower half.
 fn unpacked(reply: u64) -> Reply<usize> {
-    match (reply >> 56) as u8 {
+    match (reply >> 59) as u8 {
         0 => Ok(reply as usize),
         number => Err((number, reply as u32)),
     }

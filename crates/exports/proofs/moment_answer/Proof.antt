@@ -1,7 +1,7 @@
--- `exports::moment_answer`: the reply of `finder::answer`, packed. Assumes nothing.
+-- `exports::moment_answer`: the reply of `answer::answer`, packed. Assumes nothing.
 use mathlib.Core.Path.{sym, ap, _∙_}
 use Rattle.model.specs.Reply.{lineReply}
-use Rattle.exports.specs.Packed.{packed}
+use Rattle.exports.specs.Packed.{packed, answerWidths}
 use Rattle.exports.proofs.Replies.{answer-fair, line-low, one-packed}
 use borrow.Author.Needs.{needs}
 use Rattle.exports.proofs.moment_answer.Statement.{statement}
@@ -19,7 +19,7 @@ enum-known-r c = search needs
 packed-refusal-requires : tie.Need-packed-refusal-requires
 packed-refusal-requires c κs =
     let h = c .before .before .before .before .before .before .before .before .before .answer in
-    line-low 1 _ _ _ (ap lineReply (sym (c .before .r .given .1)) ∙ h .ensures .0) (answer-fair _ _ _ _ _)
+    line-low _ _ _ _ (ap lineReply (sym (c .before .r .given .1)) ∙ h .ensures .0) (answer-fair _ _ _ _ _)
 
 same-length : tie.Need-same-length
 same-length c = search needs
@@ -33,7 +33,7 @@ same-length-3 c = search needs
 returns : tie.Need-returns
 returns c =
     let h = c .before .before .before .before .before .before .before .before .before .answer in
-    (one-packed _ _ (ap lineReply (sym (c .before .n .given .1)) ∙ h .ensures .0), (h .ensures .1 .0, rw (h .ensures .0) at (h .ensures .1 .1 .0)))
+    (one-packed _ _ _ (ap lineReply (sym (c .before .n .given .1)) ∙ h .ensures .0), (h .ensures .1 .0, rw (h .ensures .0) at (h .ensures .1 .1 .0)))
 
 same-length-4 : tie.Need-same-length-4
 same-length-4 c = search needs
@@ -47,7 +47,7 @@ same-length-6 c = search needs
 returns-2 : tie.Need-returns-2
 returns-2 c =
     let h = c .before .before .before .before .before .before .before .before .before .before .answer in
-    (c .packed-refusal .ensures ∙ ap packed (ap lineReply (sym (c .before .before .r .given .1)) ∙ h .ensures .0), (h .ensures .1 .0, rw (h .ensures .0) at (h .ensures .1 .1 .0)))
+    (c .packed-refusal .ensures answerWidths ∙ ap (packed answerWidths) (ap lineReply (sym (c .before .before .r .given .1)) ∙ h .ensures .0), (h .ensures .1 .0, rw (h .ensures .0) at (h .ensures .1 .1 .0)))
 
 pub moment-answer-spec : {M : Type 1} → statement M
 moment-answer-spec =

@@ -1,7 +1,7 @@
--- `exports::moment_holds`: the reply of `finder::holds`, packed. Assumes nothing.
+-- `exports::moment_holds`: the reply of `holds::holds`, packed. Assumes nothing.
 use mathlib.Core.Path.{sym, ap, _∙_}
 use Rattle.model.specs.Reply.{holdsReply}
-use Rattle.exports.specs.Packed.{packed}
+use Rattle.exports.specs.Packed.{packed, holdsWidths}
 use Rattle.exports.proofs.Replies.{holds-fair, line-low, one-packed}
 use borrow.Author.Needs.{needs}
 use Rattle.exports.proofs.moment_holds.Statement.{statement}
@@ -22,7 +22,7 @@ enum-known-r c = search needs
 packed-refusal-requires : tie.Need-packed-refusal-requires
 packed-refusal-requires c κs =
     let h = c .before .before .before .before .before .before .before .holds in
-    line-low 1 _ _ _ (ap holdsReply (sym (c .before .r .given .1)) ∙ h .ensures .0) (holds-fair _ _ _ _ _)
+    line-low _ _ _ _ (ap holdsReply (sym (c .before .r .given .1)) ∙ h .ensures .0) (holds-fair _ _ _ _ _)
 
 same-length : tie.Need-same-length
 same-length c = search needs
@@ -33,7 +33,7 @@ same-length-2 c = search needs
 returns : tie.Need-returns
 returns c =
     let h = c .before .before .before .before .before .before .holds in
-    (one-packed _ _ (ap holdsReply (sym (c .enum-told .given .1)) ∙ h .ensures .0), rw (h .ensures .0) at (h .ensures .1 .0))
+    (one-packed _ _ _ (ap holdsReply (sym (c .enum-told .given .1)) ∙ h .ensures .0), rw (h .ensures .0) at (h .ensures .1 .0))
 
 same-length-3 : tie.Need-same-length-3
 same-length-3 c = search needs
@@ -44,7 +44,7 @@ same-length-4 c = search needs
 returns-2 : tie.Need-returns-2
 returns-2 c =
     let h = c .before .before .before .before .before .before .holds in
-    (one-packed _ _ (ap holdsReply (sym (c .enum-told2 .given .1)) ∙ h .ensures .0), rw (h .ensures .0) at (h .ensures .1 .0))
+    (one-packed _ _ _ (ap holdsReply (sym (c .enum-told2 .given .1)) ∙ h .ensures .0), rw (h .ensures .0) at (h .ensures .1 .0))
 
 same-length-5 : tie.Need-same-length-5
 same-length-5 c = search needs
@@ -55,7 +55,7 @@ same-length-6 c = search needs
 returns-3 : tie.Need-returns-3
 returns-3 c =
     let h = c .before .before .before .before .before .before .before .before .holds in
-    (c .packed-refusal .ensures ∙ ap packed (ap holdsReply (sym (c .before .before .r .given .1)) ∙ h .ensures .0), rw (h .ensures .0) at (h .ensures .1 .0))
+    (c .packed-refusal .ensures holdsWidths ∙ ap (packed holdsWidths) (ap holdsReply (sym (c .before .before .r .given .1)) ∙ h .ensures .0), rw (h .ensures .0) at (h .ensures .1 .0))
 
 pub moment-holds-spec : {M : Type 1} → statement M
 moment-holds-spec =

@@ -1,7 +1,7 @@
 -- `exports::moment_read`: the reply of `log::read`, packed. Assumes nothing.
 use mathlib.Core.Path.{sym, ap, _∙_}
 use Rattle.model.specs.Reply.{readReply}
-use Rattle.exports.specs.Packed.{packed}
+use Rattle.exports.specs.Packed.{packed, readWidths}
 use Rattle.exports.proofs.Replies.{read-fair, line-low, counts-low}
 use borrow.Author.Needs.{needs}
 use Rattle.exports.proofs.moment_read.Statement.{statement}
@@ -24,7 +24,7 @@ enum-known-r c = search needs
 packed-refusal-requires : tie.Need-packed-refusal-requires
 packed-refusal-requires c κs =
     let h = c .before .before .before .before .before .read in
-    line-low 4 _ _ _ (ap readReply (sym (c .before .r .given .1)) ∙ h .ensures .0) (read-fair _ _)
+    line-low _ _ _ _ (ap readReply (sym (c .before .r .given .1)) ∙ h .ensures .0) (read-fair _ _)
 
 same-length : tie.Need-same-length
 same-length c = search needs
@@ -32,7 +32,7 @@ same-length c = search needs
 returns : tie.Need-returns
 returns c =
     let h = c .before .before .before .before .before .before .read in
-    (c .packed-counts .ensures ∙ ap packed (ap readReply (sym (c .before .before .l .given .1)) ∙ h .ensures .0), h .ensures .1 .0)
+    (c .packed-counts .ensures ∙ ap (packed readWidths) (ap readReply (sym (c .before .before .l .given .1)) ∙ h .ensures .0), h .ensures .1 .0)
 
 same-length-2 : tie.Need-same-length-2
 same-length-2 c = search needs
@@ -40,7 +40,7 @@ same-length-2 c = search needs
 returns-2 : tie.Need-returns-2
 returns-2 c =
     let h = c .before .before .before .before .before .before .read in
-    (c .packed-refusal .ensures ∙ ap packed (ap readReply (sym (c .before .before .r .given .1)) ∙ h .ensures .0), h .ensures .1 .0)
+    (c .packed-refusal .ensures readWidths ∙ ap (packed readWidths) (ap readReply (sym (c .before .before .r .given .1)) ∙ h .ensures .0), h .ensures .1 .0)
 
 pub moment-read-spec : {M : Type 1} → statement M
 moment-read-spec =

@@ -1,7 +1,7 @@
 -- `exports::moment_write`: the reply of `log::write`, packed. Assumes nothing.
 use mathlib.Core.Path.{sym, ap, _∙_}
 use Rattle.model.specs.Reply.{writeReply}
-use Rattle.exports.specs.Packed.{packed}
+use Rattle.exports.specs.Packed.{packed, writeWidths}
 use Rattle.exports.proofs.Replies.{write-fair, line-low, one-packed}
 use borrow.Author.Needs.{needs}
 use Rattle.exports.proofs.moment_write.Statement.{statement}
@@ -19,7 +19,7 @@ enum-known-r c = search needs
 packed-refusal-requires : tie.Need-packed-refusal-requires
 packed-refusal-requires c κs =
     let h = c .before .before .before .before .before .write in
-    line-low 1 _ _ _ (ap writeReply (sym (c .before .r .given .1)) ∙ h .ensures .0) (write-fair _ _)
+    line-low _ _ _ _ (ap writeReply (sym (c .before .r .given .1)) ∙ h .ensures .0) (write-fair _ _)
 
 same-length : tie.Need-same-length
 same-length c = search needs
@@ -27,7 +27,7 @@ same-length c = search needs
 returns : tie.Need-returns
 returns c =
     let h = c .before .before .before .before .before .write in
-    (one-packed _ _ (ap writeReply (sym (c .before .n .given .1)) ∙ h .ensures .0), h .ensures .1 .0)
+    (one-packed _ _ _ (ap writeReply (sym (c .before .n .given .1)) ∙ h .ensures .0), h .ensures .1 .0)
 
 same-length-2 : tie.Need-same-length-2
 same-length-2 c = search needs
@@ -35,7 +35,7 @@ same-length-2 c = search needs
 returns-2 : tie.Need-returns-2
 returns-2 c =
     let h = c .before .before .before .before .before .before .write in
-    (c .packed-refusal .ensures ∙ ap packed (ap writeReply (sym (c .before .before .r .given .1)) ∙ h .ensures .0), h .ensures .1 .0)
+    (c .packed-refusal .ensures writeWidths ∙ ap (packed writeWidths) (ap writeReply (sym (c .before .before .r .given .1)) ∙ h .ensures .0), h .ensures .1 .0)
 
 pub moment-write-spec : {M : Type 1} → statement M
 moment-write-spec =

@@ -1,0 +1,89 @@
+// The operation Answer.
+use load::Acceptance;
+use model::Fault;
+use model::LineAnswer;
+use model::Log;
+use opening::asked;
+use opening::cramped;
+use opening::lay;
+use opening::open_log;
+use question::put_line;
+ghost use mathlib.Core.Path.{_≡_};
+ghost use mathlib.Core.List.{List, [], _∷_};
+ghost use Prim.Native.Nat.{ℕ, _≤_, _<_};
+ghost use lib.ListN.{length, take};
+ghost use Rattle.model.specs.Limits.{limits, storeSize, workspaceSize, barspaceSize, lineSize};
+ghost use Rattle.model.specs.Formula.{Formula};
+ghost use Rattle.model.specs.Computation.{Computation};
+ghost use Rattle.model.specs.Answer.{answer, answerLine};
+ghost use Rattle.model.specs.Reply.{gives, refuses, number, lineReply};
+ghost use Rattle.model.specs.Operations.{Kept, answerOp};
+ghost use Rattle.model.specs.Promise.{Asked, Answered};
+ghost use Rattle.line.specs.AtFront.{AtFront};
+ghost use Rattle.opening.specs.Opening.{Poses};
+
+// A refusal where no one line is at fault.
+fn refused(fault: Fault) -> LineAnswer
+    ensures { λ r. ⌜ lineReply r ≡ refuses (number fault) 0 ⌝ }
+{
+    let refusal = model::Refusal {
+        fault: fault,
+        line: 0,
+    };
+    LineAnswer::Refused(refusal)
+}
+
+// Lays an opened log out, and writes the answer line to its question at the front of `out`; hands back its length.
+fn answer_opened(
+    list: &[u8],
+    store: &[u8],
+    loaded: load::Loaded,
+    question: usize,
+    ws: &mut [u8],
+    bs: &mut [u8],
+    out: &mut [u8],
+) -> usize
+    requires { ⌜ (loaded .length ≤ length (now list)) × (length (now store) ≡ storeSize) × (workspaceSize ≤ length (now ws)) × (barspaceSize ≤ length (now bs)) × (lineSize ≤ length (now out)) ⌝ }
+    requires { ⌜ ((log : List ℕ) × Poses limits log question loaded (now list) (now store)) ⌝ }
+    ensures { λ r. ⌜ ((log : List ℕ) (p : Poses limits log question loaded (now (list .entry)) (now (store .entry))) → AtFront (answerLine (answer (p .accepts .reading .computation) (p .question))) r (now (out .entry)) (now (out .exit))) ⌝ }
+{
+    let mut starts = [0u8; Log::STARTS];
+    let mut facts = [0u16; Log::FACTS];
+    let x = lay(store, loaded, &mut starts, &mut facts);
+    let q = asked(list, loaded, question);
+    put_line(q, x, &starts, &facts, ws, bs, out)
+}
+
+// Answer: the line that answers a question of a log, at the front of `out`.
+pub fn answer(
+    log: &[u8],
+    question: usize,
+    ws: &mut [u8],
+    bs: &mut [u8],
+    out: &mut [u8],
+) -> LineAnswer
+    ensures { λ r. ⌜ lineReply r ≡ (answerOp limits (now (log .entry)) question (length (now (ws .entry))) (length (now (bs .entry))) (now (out .entry))) .reply ⌝ }
+    ensures { λ r. ⌜ now (out .exit) ≡ (answerOp limits (now (log .entry)) question (length (now (ws .entry))) (length (now (bs .entry))) (now (out .entry))) .output ⌝ }
+    ensures { λ r. ⌜ Kept (lineReply r) (now (ws .entry)) (now (ws .exit)) × Kept (lineReply r) (now (bs .entry)) (now (bs .exit)) ⌝ }
+    ensures { λ r. ⌜ ((K : Computation) (f : Formula) → Asked limits (now (log .entry)) question K f → (m : ℕ) → lineReply r ≡ gives (m ∷ []) → Answered K f (take m (now (out .exit)))) ⌝ }
+{
+    let mut list = [0u8; Log::LIST];
+    let mut store = [0u8; Log::STORE];
+    let loaded = open_log(Log::limits(), log, question, &mut list, &mut store);
+    let outcome = loaded.outcome;
+    match outcome {
+        Acceptance::Refused(refusal) => LineAnswer::Refused(refusal),
+        Acceptance::Accepted => {
+            let tight = cramped(ws.len(), bs.len());
+            let short = out.len() < Log::LINE;
+            if tight {
+                return refused(Fault::Workspace);
+            }
+            if short {
+                return refused(Fault::Output);
+            }
+            let size = answer_opened(&list, &store, loaded, question, ws, bs, out);
+            LineAnswer::Written(size)
+        }
+    }
+}

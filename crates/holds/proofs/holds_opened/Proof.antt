@@ -1,0 +1,59 @@
+-- `holds_opened` meets its contract: the question is found and worked out over the computation that was laid out. Assumes nothing.
+use mathlib.Core.Path.{refl, sym, _∙_}
+use borrow.Author.Needs.{needs}
+use Rattle.load.proofs.Loads.{no-larger}
+use Rattle.opening.proofs.Logs.{below, question, posed}
+use Rattle.holds.proofs.holds_opened.Statement.{statement}
+use Rattle.holds.proofs.holds_opened.Tie as tie
+
+slice-aggregate-lay : tie.Need-slice-aggregate-lay
+slice-aggregate-lay c = search needs
+
+slice-aggregate-lay-2 : tie.Need-slice-aggregate-lay-2
+slice-aggregate-lay-2 c = search needs
+
+lay-requires : tie.Need-lay-requires
+lay-requires c κs = let p = c .before .before .before .before .before .before .before .pre in ((p .0 .1, search needs, search needs), (_, record { limits-are = _; small = no-larger _ refl; log = _; accepts = p .1 .1 .accepts }))
+
+asked-requires : tie.Need-asked-requires
+asked-requires c κs = let p = c .before .before .before .before .before .before .before .before .before .before .pre in let o = p .1 .1 in ((below (o .accepts) _ (o .question) (o .is), p .0 .0), (_, record { limits-are = _; small = no-larger _ refl; log = _; accepts = o .accepts }))
+
+slice-aggregate-true-at : tie.Need-slice-aggregate-true-at
+slice-aggregate-true-at c = search needs
+
+slice-aggregate-true-at-2 : tie.Need-slice-aggregate-true-at-2
+slice-aggregate-true-at-2 c = search needs
+
+true-at-requires : tie.Need-true-at-requires
+true-at-requires c κs =
+    let p = c .before .before .before .before .before .before .before .before .before .before .before .before .before .before .before .pre in
+    let o = p .1 .1 in
+    let a = o .accepts in
+    let l = c .before .before .before .before .before .before .before .lay .ensures in
+    (posed a _ (o .question) (o .is) _ (c .before .before .before .before .asked .ensures _ _ _ a (o .question) (o .is)) (l .1 _ _ _ a) _ (p .0 .3), (p .0 .2 ∙ sym (l .0), p .0 .4))
+
+same-length : tie.Need-same-length
+same-length c = search needs
+
+same-length-2 : tie.Need-same-length-2
+same-length-2 c = search needs
+
+returns : tie.Need-returns
+returns c = λ log o.
+    let a = o .accepts in
+    c .before .before .before .before .true-at .ensures _ (o .question) (question a _ (o .question) (o .is) _ (c .before .before .before .before .before .before .before .before .before .asked .ensures _ _ _ a (o .question) (o .is)) (c .before .before .before .before .before .before .before .before .before .before .before .before .lay .ensures .1 _ _ _ a))
+
+pub holds-opened-spec : {M : Type 1} → statement M
+holds-opened-spec =
+    tie.close
+    (tie.spec
+    slice-aggregate-lay
+    slice-aggregate-lay-2
+    lay-requires
+    asked-requires
+    slice-aggregate-true-at
+    slice-aggregate-true-at-2
+    true-at-requires
+    same-length
+    same-length-2
+    returns)

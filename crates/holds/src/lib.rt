@@ -1,0 +1,94 @@
+// The operation Holds.
+use load::Acceptance;
+use model::Fault;
+use model::HoldsAnswer;
+use model::Log;
+use opening::asked;
+use opening::cramped;
+use opening::lay;
+use opening::open_log;
+use question::true_at;
+ghost use mathlib.Core.Path.{_≡_};
+ghost use mathlib.Core.List.{List, [], _∷_};
+ghost use Prim.Native.Nat.{ℕ, _≤_};
+ghost use lib.ListN.{length};
+ghost use Rattle.model.specs.Limits.{limits, storeSize, workspaceSize, barspaceSize};
+ghost use Rattle.model.specs.Formula.{Formula};
+ghost use Rattle.model.specs.Computation.{Computation, Consistent};
+ghost use Rattle.model.specs.Answer.{trueAt, yesNo};
+ghost use Rattle.model.specs.Reply.{gives, refuses, number, holdsReply};
+ghost use Rattle.model.specs.Operations.{Kept, holdsOp};
+ghost use Rattle.model.specs.Promise.{Asked, Tested};
+ghost use Rattle.opening.specs.Opening.{Poses};
+
+// A refusal where no one line is at fault.
+fn refused(fault: Fault) -> HoldsAnswer
+    ensures { λ r. ⌜ holdsReply r ≡ refuses (number fault) 0 ⌝ }
+{
+    let refusal = model::Refusal {
+        fault: fault,
+        line: 0,
+    };
+    HoldsAnswer::Refused(refusal)
+}
+
+// What Holds says of a cut.
+fn told(yes: bool) -> HoldsAnswer
+    ensures { λ r. ⌜ holdsReply r ≡ gives (yesNo yes ∷ []) ⌝ }
+{
+    if yes {
+        HoldsAnswer::Yes
+    } else {
+        HoldsAnswer::No
+    }
+}
+
+// Lays an opened log out, and tells whether its question is true at a cut.
+fn holds_opened(
+    list: &[u8],
+    store: &[u8],
+    loaded: load::Loaded,
+    question: usize,
+    cut: &[u8],
+    ws: &mut [u8],
+    bs: &mut [u8],
+) -> bool
+    requires { ⌜ (loaded .length ≤ length (now list)) × (length (now store) ≡ storeSize) × (length (now cut) ≡ loaded .state .stations) × (workspaceSize ≤ length (now ws)) × (barspaceSize ≤ length (now bs)) ⌝ }
+    requires { ⌜ ((log : List ℕ) × Poses limits log question loaded (now list) (now store)) ⌝ }
+    ensures { λ r. ⌜ ((log : List ℕ) (p : Poses limits log question loaded (now (list .entry)) (now (store .entry))) → r ≡ trueAt (p .accepts .reading .computation) (p .question) (now (cut .entry))) ⌝ }
+{
+    let mut starts = [0u8; Log::STARTS];
+    let mut facts = [0u16; Log::FACTS];
+    let x = lay(store, loaded, &mut starts, &mut facts);
+    let q = asked(list, loaded, question);
+    true_at(q, x, &starts, &facts, cut, ws, bs)
+}
+
+// Holds: whether a question of a log is true at a cut.
+pub fn holds(log: &[u8], question: usize, cut: &[u8], ws: &mut [u8], bs: &mut [u8]) -> HoldsAnswer
+    ensures { λ r. ⌜ holdsReply r ≡ holdsOp limits (now (log .entry)) question (now (cut .entry)) (length (now (ws .entry))) (length (now (bs .entry))) ⌝ }
+    ensures { λ r. ⌜ Kept (holdsReply r) (now (ws .entry)) (now (ws .exit)) × Kept (holdsReply r) (now (bs .entry)) (now (bs .exit)) ⌝ }
+    ensures { λ r. ⌜ ((K : Computation) (f : Formula) → Asked limits (now (log .entry)) question K f → Consistent K (now (cut .entry)) → workspaceSize ≤ length (now (ws .entry)) → barspaceSize ≤ length (now (bs .entry)) → Tested K f (now (cut .entry)) (holdsReply r)) ⌝ }
+{
+    let mut list = [0u8; Log::LIST];
+    let mut store = [0u8; Log::STORE];
+    let loaded = open_log(Log::limits(), log, question, &mut list, &mut store);
+    let outcome = loaded.outcome;
+    match outcome {
+        Acceptance::Refused(refusal) => HoldsAnswer::Refused(refusal),
+        Acceptance::Accepted => {
+            let s = loaded.state;
+            let counts = s.counts;
+            let inside = layout::consistent::consistent(cut, &store, s.stations, &counts);
+            let small = cramped(ws.len(), bs.len());
+            if !inside {
+                return refused(Fault::Cut);
+            }
+            if small {
+                return refused(Fault::Workspace);
+            }
+            let yes = holds_opened(&list, &store, loaded, question, cut, ws, bs);
+            told(yes)
+        }
+    }
+}

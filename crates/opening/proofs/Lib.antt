@@ -1,0 +1,3 @@
+pub mod Logs
+pub mod Openings
+pub mod Room

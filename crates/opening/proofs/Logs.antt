@@ -1,0 +1,130 @@
+-- What a loaded log gives: its computation can be laid out, and each question of it can be found and worked out.
+use mathlib.Core.Path.{_≡_, refl, sym, ap, _∙_}
+use mathlib.Core.Bool.{true}
+use mathlib.Core.List.{List, [], _∷_}
+use mathlib.Core.Option.{none, some}
+use Prim.Native.Nat.{ℕ, zero, suc, _+_, _≤_, _<_}
+use native.Mathlib.Omega.{arith}
+use native.Mathlib.Numerals.{add-one}
+use native.Mathlib.Nat.{le-trans}
+use lib.ListN.{length, take, getD, getElem?, length-map, List·getD-map}
+use lib.Seq.{ext-getD, getD-take, length-take-le}
+use Rattle.model.specs.declared.Limits.{Limits}
+use Rattle.model.specs.Limits.{limits, workspaceSize}
+use Rattle.model.specs.Lists.{total}
+use Rattle.model.specs.Formula.{Formula, prefix}
+use Rattle.model.specs.Cut.{Cut}
+use Rattle.model.specs.Computation.{Computation, stations, count, full, isConsistent}
+use Rattle.model.specs.Promise.{Asked}
+use Rattle.lattice.proofs.Consistency.{consistent-iff}
+use Rattle.lattice.proofs.Lists.{all-at}
+use Rattle.lattice.proofs.Held.{workspace-fits}
+use Rattle.codec.specs.Limits.{NoLarger}
+use Rattle.codec.proofs.Bytes.{Bytes, bytes-tail}
+use Rattle.codec.proofs.Formulas.{prefix-formula}
+use Rattle.codec.proofs.Lawful.{Lawful}
+use Rattle.codec.proofs.QuestionFrames.{questionFrames, question-spelt}
+use Rattle.codec.proofs.Readings.{log-are-frames}
+use Rattle.structure.specs.declared.Shape.{Shape}
+use Rattle.basis.specs.Contract.{Given}
+use Rattle.frame.specs.declared.State.{State}
+use Rattle.frame.specs.State.{firstQuestion, Bounded}
+use Rattle.load.specs.Loading.{Accepts}
+use Rattle.load.proofs.Questions.{good, question-frame}
+use Rattle.layout.specs.Loaded.{Loaded}
+use Rattle.question.specs.Questions.{Asks, Question, cellsHeld}
+
+-- There is a question at each number below their count, and none from there on.
+
+pub question-there : (l : List Formula) (q : ℕ) → q < length l → (f : Formula) × (getElem? l q ≡ some f)
+question-there [] q h = absurd (omega arith)
+question-there (f ∷ l) zero h = (f, refl)
+question-there (f ∷ l) (suc q) h = question-there l q (omega arith)
+
+pub no-question : (l : List Formula) (q : ℕ) → length l ≤ q → getElem? l q ≡ none
+no-question [] q h = refl
+no-question (f ∷ l) zero h = absurd (omega arith)
+no-question (f ∷ l) (suc q) h = no-question l q (omega arith)
+
+question-below : (l : List Formula) (q : ℕ) (f : Formula) → getElem? l q ≡ some f → q < length l
+question-below [] q f e = let z : _≡_ {A = ℕ} 0 1 = cc in absurd (omega arith)
+question-below (g ∷ l) zero f e = omega arith
+question-below (g ∷ l) (suc q) f e = omega (arith, question-below l q f e)
+
+-- A state within limits is one within larger limits.
+pub bounded-within : {m : Limits} {s : State} → NoLarger m limits → Bounded m s → Bounded limits s
+bounded-within fit b = record {
+  few-stations = le-trans (b .few-stations) (fit .stations);
+  few-events = le-trans (b .few-events) (fit .events);
+  few-questions = le-trans (b .few-questions) (fit .questions);
+  eight = b .eight;
+  each = b .each;
+}
+
+module _ {m : Limits} {log : List ℕ} {s : State} {k : ℕ} {list t : List ℕ} (a : Accepts m log s k list t) where
+  law : Lawful m (a .reading)
+  law = good a .lawful
+
+  pub question-count : s .questions ≡ length (a .reading .questions)
+  question-count = a .holds .questions
+
+  -- THE COMPUTATION
+
+  pub loaded : Loaded (a .reading .computation) (s .stations) (s .counts) t
+  loaded = record { stored = a .holds .stored; valid = law .valid }
+
+  pub counts-total : NoLarger m limits → total (take (s .stations) (s .counts)) ≡ s .events
+  counts-total fit =
+      let K = a .reading .computation in
+      let b = bounded-within fit (a .bounded) in
+      let x : length (take (s .stations) (s .counts)) ≡ s .stations = length-take-le (s .stations) (s .counts) (omega (arith, b .eight, b .few-stations)) in
+      let y : length (full K) ≡ s .stations = length-map (K .events) length ∙ a .holds .sizes ∙ a .holds .stored .size in
+      let z : take (s .stations) (s .counts) ≡ full K = ext-getD 0 (take (s .stations) (s .counts)) (full K) (x ∙ sym y) (λ i h.
+      getD-take (s .stations) (s .counts) i 0 (omega arith) ∙ a .holds .stored .each i ∙ sym (List·getD-map length (K .events) i [])) in
+      ap total z ∙ sym (a .holds .events)
+
+  -- A consistent cut has a count for each station.
+  pub cut-size : (c : Cut) → isConsistent (a .reading .computation) c ≡ true → length c ≡ s .stations
+  cut-size c e = consistent-iff (a .reading .computation) c .0 e .size ∙ a .holds .stored .size
+
+  -- A QUESTION
+
+  -- Its bytes.
+  abbrev pub bytesAt : ℕ → List ℕ
+  bytesAt q = getD (questionFrames (a .reading .frames)) q []
+
+  asks : (q : ℕ) → q < s .questions → Asks list k (firstQuestion s + q) (bytesAt q)
+  asks q h = let x = question-frame a q h in record { frames = a .reading .frames; listed = a .listed; there = x .0; is = x .1 }
+
+  -- As the code counts it.
+  pub asks-at : (first : ℕ) → first ≡ firstQuestion s → (q : ℕ) → q < s .questions → Asks list k (first + q) (bytesAt q)
+  asks-at first e q h = rw e (asks q h)
+
+  bytes-are : (q : ℕ) → q < s .questions → Bytes (bytesAt q)
+  unfolding asks
+  bytes-are q h =
+      let x = asks q h in
+      let framed = all-at (log-are-frames m log (a .reading) (a .is)) [] (firstQuestion s + q) (x .there) .bytes in
+      bytes-tail 0x30 (bytesAt q) (rw (x .is) at framed)
+
+  module _ (q : ℕ) (f : Formula) (is : getElem? (a .reading .questions) q ≡ some f) where
+    pub below : q < s .questions
+    below = omega (arith, question-count, question-below (a .reading .questions) q f is)
+
+    pub spelt-at : bytesAt q ≡ prefix f
+    spelt-at = sym (prefix-formula (bytesAt q) f (bytes-are q below) (question-spelt (law .framed) q ∙ is) .0)
+
+    pub is-asked : Asked m log q (a .reading .computation) f
+    is-asked = record { frames = a .reading .frames; questions = a .reading .questions; reads = a .is; is = is }
+
+    pub question : {x : Shape} {starts facts : List ℕ} (bytes : List ℕ) → bytes ≡ prefix f → Given (a .reading .computation) x starts facts → Question (a .reading .computation) f bytes x starts facts
+    question bytes e laid = record { laid = laid; spells = e; named = rw (laid .0 .stationed) at (law .good q f is .0); fitting = law .good q f is .1 }
+
+    -- There is room to work it out.
+    pub posed : {x : Shape} {starts facts : List ℕ} (bytes : List ℕ) → bytes ≡ prefix f → Given (a .reading .computation) x starts facts → (room : ℕ) → workspaceSize ≤ room
+        → (K : Computation) × (f : Formula) × Question K f bytes x starts facts × (cellsHeld f x ≤ room)
+    posed {x = x} bytes e laid room h =
+        let g = question bytes e laid in
+        let few = laid .0 .shaped in
+        let cells : cellsHeld f x ≤ workspaceSize = rw (add-one (x .e)) (workspace-fits f (g .fitting) (x .n) (x .e) (few .few-stations) (few .few-events)) in
+        (a .reading .computation, f, g, le-trans cells h)

@@ -1,0 +1,51 @@
+-- What opening a log for a question comes to, by what loading it came to.
+use mathlib.Core.Path.{_≡_}
+use mathlib.Core.List.{List}
+use Prim.Native.Nat.{ℕ, _≤_, _<_}
+use native.Mathlib.Omega.{arith}
+use lib.ListN.{length}
+use Rattle.model.specs.declared.Limits.{Limits}
+use Rattle.model.specs.declared.Refusal.{Refusal}
+use Rattle.model.specs.Reply.{number}
+use Rattle.model.specs.Operations.{shut, poses, posing, openingOf, opening}
+use Rattle.load.specs.declared.Acceptance.{Acceptance}
+use Rattle.load.specs.declared.Acceptance.the-variants.{Accepted, Refused}
+use Rattle.load.specs.declared.Loaded.{Loaded}
+use Rattle.load.specs.Loading.{Accepts, Loads}
+use Rattle.load.proofs.Loads.{to-accepts, to-refused}
+use Rattle.opening.specs.Opening.{Poses, Opens}
+use Rattle.opening.proofs.Logs.{question-count, question-there, no-question}
+
+module _ (m : Limits) (log : List ℕ) (q : ℕ) (l : Loaded) (list t : List ℕ) where
+  -- A log that has the question poses it.
+  pub poses-is : (p : Poses m log q l list t) → opening m log q ≡ poses (p .accepts .reading .computation) (p .question)
+  unfolding opening openingOf posing
+  poses-is p = rw (p .accepts .is, p .is)
+
+  module _ (o : Acceptance) (h : Loads m o log (l .state) (l .length) list t) where
+    accepts : o ≡ Accepted → Accepts m log (l .state) (l .length) list t
+    accepts = to-accepts m o log (l .state) (l .length) list t h
+
+    pub opens-posed : o ≡ Accepted → q < l .state .questions → Opens m o log q l list t
+    opens-posed e b =
+        let a = accepts e in
+        let f = question-there (a .reading .questions) q (omega (arith, question-count a)) in
+        rw e (record { accepts = a; question = f .0; is = f .1 })
+
+    -- One that does not have it is shut.
+    pub opens-without : o ≡ Accepted → l .state .questions ≤ q → opening m log q ≡ shut 10 0
+    unfolding opening openingOf posing
+    opens-without e b = let a = accepts e in rw (a .is, no-question (a .reading .questions) q (omega (arith, question-count a)))
+
+    -- A refused log is shut by its refusal.
+    pub opens-refused : (x : Refusal) → o ≡ Refused x → Opens m o log q l list t
+    unfolding opening openingOf
+    opens-refused x e = rw e (rw (to-refused m o log (l .state) (l .length) list t h x e))
+
+-- The two cases, as the code hands them over with the limits that it gave.
+module _ (m m′ : Limits) (is : m ≡ m′) (log : List ℕ) (q : ℕ) (l : Loaded) (list t : List ℕ) (o : Acceptance) (h : Opens m o log q l list t) where
+  pub to-poses : o ≡ Accepted → Poses m′ log q l list t
+  to-poses e = rw is at (rw e at h)
+
+  pub to-shut : (x : Refusal) → o ≡ Refused x → opening m′ log q ≡ shut (number (x .fault)) (x .line)
+  to-shut x e = rw is at (rw e at h)

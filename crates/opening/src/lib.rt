@@ -1,0 +1,87 @@
+// What every operation that asks about a question begins with: a log is loaded, and has the question.
+use load::Acceptance;
+use load::Loaded;
+use model::Log;
+use question::frames::question_at;
+use structure::Shape;
+ghost use mathlib.Core.Path.{_≡_};
+ghost use mathlib.Core.List.{List};
+ghost use mathlib.Core.Option.{some};
+ghost use Prim.Native.Nat.{ℕ, _≤_, _<_};
+ghost use lib.ListN.{length, getElem?};
+ghost use Rattle.model.specs.declared.Limits.{Limits};
+ghost use Rattle.model.specs.Limits.{limits, storeSize, startsSize, factsSize};
+ghost use Rattle.model.specs.Formula.{Formula, prefix};
+ghost use Rattle.model.specs.Operations.{cramped};
+ghost use Rattle.codec.specs.Limits.{NoLarger};
+ghost use Rattle.basis.specs.Contract.{Given};
+ghost use Rattle.load.specs.Loading.{Accepts};
+ghost use Rattle.opening.specs.Opening.{Holding, Opens};
+
+// Loads a log within the limits m, and looks whether it has a question of this number: the refusals 1 to 9, then 10.
+pub fn open_log(
+    m: model::Limits,
+    log: &[u8],
+    question: usize,
+    list: &mut [u8],
+    store: &mut [u8],
+) -> Loaded
+    requires { ⌜ NoLarger m limits ⌝ }
+    requires { ⌜ (length (now list) ≡ limits .list) × (length (now store) ≡ storeSize) ⌝ }
+    ensures { λ r. ⌜ Opens m (r .outcome) (now (log .entry)) question r (now (list .exit)) (now (store .exit)) ⌝ }
+{
+    let loaded = load::load(m, log, list, store);
+    let outcome = loaded.outcome;
+    match outcome {
+        Acceptance::Refused(_) => loaded,
+        Acceptance::Accepted => {
+            let s = loaded.state;
+            if question < s.questions {
+                return loaded;
+            }
+            let refusal = model::Refusal {
+                fault: model::Fault::NoQuestion,
+                line: 0,
+            };
+            Loaded {
+                outcome: Acceptance::Refused(refusal),
+                state: s,
+                length: loaded.length,
+            }
+        }
+    }
+}
+
+// The bytes of a question of a loaded log.
+pub fn asked(list: &[u8], loaded: Loaded, question: usize) -> &[u8]
+    requires { ⌜ (question < loaded .state .questions) × (loaded .length ≤ length (now list)) ⌝ }
+    requires { ⌜ ((t : List ℕ) × Holding loaded (now list) t) ⌝ }
+    ensures { λ r. ⌜ ((m : Limits) (log t : List ℕ) (a : Accepts m log (loaded .state) (loaded .length) (now (list .entry)) t) (f : Formula) → getElem? (a .reading .questions) question ≡ some f → now r ≡ prefix f) ⌝ }
+{
+    let s = loaded.state;
+    let k = loaded.length;
+    question_at(list, k, s.first_question() + question)
+}
+
+// Lays a loaded log out in starts and facts, and gives its shape.
+pub fn lay(store: &[u8], loaded: Loaded, starts: &mut [u8], facts: &mut [u16]) -> Shape
+    requires { ⌜ (length (now store) ≡ storeSize) × (startsSize ≤ length (now starts)) × (factsSize ≤ length (now facts)) ⌝ }
+    requires { ⌜ ((list : List ℕ) × Holding loaded list (now store)) ⌝ }
+    ensures { λ x. ⌜ (x .n ≡ loaded .state .stations) × ((m : Limits) (log list : List ℕ) (a : Accepts m log (loaded .state) (loaded .length) list (now (store .entry))) → Given (a .reading .computation) x (now (starts .exit)) (now (facts .exit))) ⌝ }
+{
+    let s = loaded.state;
+    let n = s.stations;
+    let e = s.events;
+    let counts = s.counts;
+    layout::lay(store, n, e, counts, starts, facts)
+}
+
+// Is the workspace or the bar space too small, by their sizes?
+pub fn cramped(ws: usize, bs: usize) -> bool
+    ensures { λ r. ⌜ r ≡ cramped ws bs ⌝ }
+{
+    if ws < Log::WORKSPACE {
+        return true;
+    }
+    bs < Log::BARSPACE
+}
