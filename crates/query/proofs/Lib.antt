@@ -1,4 +1,3 @@
 pub mod Formulas
-pub mod Extents
 pub mod Measured
 pub mod Judged

@@ -20,14 +20,14 @@ use Rattle.lattice.proofs.Signed.{normal-not, normal-two, normal-modal, weigh-t
 use Rattle.codec.specs.Formulas.{formulas}
 use Rattle.codec.proofs.Atoms.{sign-none}
 use Rattle.codec.proofs.Formulas.{formulas-none, formulas-token, formulas-atom, formulas-sign, one-ahead, two-ahead}
-use Rattle.query.specs.declared.Extent.{Extent}
-use Rattle.query.specs.declared.Extent.the-variants.{Narrow}
+use Rattle.extents.specs.declared.Extent.{Extent}
+use Rattle.extents.specs.declared.Extent.the-variants.{Narrow}
 use Rattle.query.specs.declared.Size.{Size}
 use Rattle.query.specs.declared.Front.{Front}
 use Rattle.query.specs.declared.Front.the-variants.{Nothing, Formula as One}
-use Rattle.query.specs.Extents.{extentOf}
+use Rattle.extents.specs.Extents.{extentOf}
 use Rattle.query.specs.Measured.{first, Sized, Measured, Short, Brief, Longer, Together}
-use Rattle.query.proofs.Extents.{extent-small}
+use Rattle.extents.proofs.Extents.{extent-small}
 use Rattle.query.proofs.Formulas.{one-first, two-first, two-second}
 
 -- TOKENS

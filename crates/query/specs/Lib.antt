@@ -1,4 +1,3 @@
 -- The definitions that the contracts cite.
 pub mod Judged
-pub mod Extents
 pub mod Measured

@@ -9,11 +9,11 @@ use Rattle.model.specs.Formula as model
 use Rattle.model.specs.Formula.{ahead, sound}
 use Rattle.lattice.specs.Signed.{normal}
 use Rattle.codec.specs.Formulas.{formulas}
-use Rattle.query.specs.declared.Extent.{Extent}
+use Rattle.extents.specs.declared.Extent.{Extent}
 use Rattle.query.specs.declared.Size.{Size}
 use Rattle.query.specs.declared.Front.{Front}
 use Rattle.query.specs.declared.Front.the-variants.{Nothing, Formula}
-use Rattle.query.specs.Extents.{extentOf, Small}
+use Rattle.extents.specs.Extents.{extentOf, Small}
 
 unfoldable pub first : Option (List model.Formula) → Option model.Formula
 first none = none

@@ -1,15 +1,15 @@
 // Whether a question's bytes are exactly one formula, with sound atoms and its size within the limits.
+use extents::Extent;
+use extents::join;
+use extents::lift;
 ghost use mathlib.Core.Path.{_≡_};
 ghost use mathlib.Core.Bool.{Bool, _&&_, not};
 ghost use mathlib.Core.List.{List, _∷_};
-ghost use Prim.Native.Nat.{ℕ, _+_, _*_, _≤_, _<_, max};
+ghost use Prim.Native.Nat.{ℕ, _+_, _*_, _≤_, _<_};
 ghost use lib.ListN.{length, drop};
 ghost use lib.Dec.{eqb};
 ghost use Rattle.model.specs.Formula.{formulaOf};
-ghost use Rattle.model.specs.Rules.{Normal};
-ghost use Rattle.lattice.specs.Signed.{joinedForm, liftedForm};
 ghost use Rattle.query.specs.Judged.{judged, faultOf};
-ghost use Rattle.query.specs.Extents.{extentOf, bounded, Small};
 ghost use Rattle.query.specs.Measured.{Measured, Sized, Short, Brief, Longer, Together};
 
 // What is said of a question.
@@ -17,12 +17,6 @@ pub enum Verdict {
     Fine,
     Malformed,
     TooLarge,
-}
-
-// Width and bar count; or one of them is over its limit at some token.
-enum Extent {
-    Wide,
-    Narrow(usize, usize),
 }
 
 // A formula that was read: its bytes, its tokens, how many of them are atoms, whether these are sound, and its extent under the
@@ -53,58 +47,6 @@ fn and(a: bool, b: bool) -> bool
     ensures { λ r. ⌜ r ≡ (a && b) ⌝ }
 {
     a && b
-}
-
-// The larger.
-fn larger(a: usize, b: usize) -> usize
-    ensures { λ r. ⌜ r ≡ max a b ⌝ }
-{
-    if a <= b { b } else { a }
-}
-
-// A width and a bar count within their limits.
-fn limit(w: usize, b: usize) -> Extent
-    ensures { λ r. ⌜ r ≡ bounded w b ⌝ }
-{
-    if 16 < w {
-        return Extent::Wide;
-    }
-    if 16 < b {
-        return Extent::Wide;
-    }
-    Extent::Narrow(w, b)
-}
-
-// "and" multiplies widths and adds bars, "or" adds widths and keeps the larger bar count.
-fn join(a: Extent, b: Extent, pair: bool) -> Extent
-    requires { ⌜ Small a × Small b ⌝ }
-    ensures { λ r. ⌜ ((p q : Normal) → a ≡ extentOf p → b ≡ extentOf q → r ≡ extentOf (joinedForm pair p q)) ⌝ }
-{
-    let Extent::Narrow(w, x) = a else {
-        return Extent::Wide;
-    };
-    let Extent::Narrow(v, y) = b else {
-        return Extent::Wide;
-    };
-    if pair {
-        limit(w * v, x + y)
-    } else {
-        limit(w + v, larger(x, y))
-    }
-}
-
-// Possibly keeps the width and has no bars, not possibly has one structure with a bar for each of the operand's.
-fn lift(a: Extent, keep: bool) -> Extent
-    ensures { λ r. ⌜ ((p : Normal) → a ≡ extentOf p → r ≡ extentOf (liftedForm keep p)) ⌝ }
-{
-    let Extent::Narrow(w, x) = a else {
-        return Extent::Wide;
-    };
-    if keep {
-        Extent::Narrow(w, 0)
-    } else {
-        Extent::Narrow(1, w)
-    }
 }
 
 // A size with one token more in front.

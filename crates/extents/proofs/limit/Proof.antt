@@ -1,8 +1,8 @@
--- `query::limit` meets its contract: the two tests are those of the definition. Assumes nothing.
+-- `extents::limit` meets its contract: the two tests are those of the definition. Assumes nothing.
 use borrow.Author.Tests.{le-leb, lt-leb}
-use Rattle.query.specs.Extents.{bounded}
-use Rattle.query.proofs.limit.Statement.{statement}
-use Rattle.query.proofs.limit.Tie as tie
+use Rattle.extents.specs.Extents.{bounded}
+use Rattle.extents.proofs.limit.Statement.{statement}
+use Rattle.extents.proofs.limit.Tie as tie
 
 returns : tie.Need-returns
 unfolding bounded

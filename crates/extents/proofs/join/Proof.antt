@@ -1,13 +1,13 @@
--- `query::join` meets its contract, by the laws of extents. Assumes nothing.
+-- `extents::join` meets its contract, by the laws of extents. Assumes nothing.
 use mathlib.Core.Path.{sym, _∙_}
 use native.Mathlib.Nat.{mul-le-mul}
 use native.Mathlib.Omega.{arith}
 use borrow.Author.Needs.{needs}
-use Rattle.query.specs.declared.Extent.the-variants.{Narrow}
-use Rattle.query.specs.Extents.{Small}
-use Rattle.query.proofs.Extents.{join-wide-left, join-wide-right, join-both, join-either}
-use Rattle.query.proofs.join.Statement.{statement}
-use Rattle.query.proofs.join.Tie as tie
+use Rattle.extents.specs.declared.Extent.the-variants.{Narrow}
+use Rattle.extents.specs.Extents.{Small}
+use Rattle.extents.proofs.Extents.{join-wide-left, join-wide-right, join-both, join-either}
+use Rattle.extents.proofs.join.Statement.{statement}
+use Rattle.extents.proofs.join.Tie as tie
 
 -- Both are narrow: what bounds their numbers.
 fit : (c : tie.After-known-told2) → Small (Narrow (c .before .before .before .before .a .given .0 .0) (c .before .before .before .before .a .given .0 .1 .0)) × Small (Narrow (c .before .b .given .0 .0) (c .before .b .given .0 .1 .0))

@@ -8,8 +8,8 @@ use Rattle.model.specs.Rules.{Normal}
 use Rattle.model.specs.Size.{width, bars, slim, narrow}
 use Rattle.lattice.proofs.Size.{narrow-to}
 use Rattle.lattice.specs.Signed.{joinedForm, liftedForm}
-use Rattle.query.specs.declared.Extent.the-variants.{Wide, Narrow}
-use Rattle.query.specs.Extents.{extentOf, bounded, Small}
+use Rattle.extents.specs.declared.Extent.the-variants.{Wide, Narrow}
+use Rattle.extents.specs.Extents.{extentOf, bounded, Small}
 
 -- WHAT AN EXTENT TELLS
 

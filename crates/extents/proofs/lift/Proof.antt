@@ -1,9 +1,9 @@
--- `query::lift` meets its contract, by the laws of extents. Assumes nothing.
+-- `extents::lift` meets its contract, by the laws of extents. Assumes nothing.
 use mathlib.Core.Path.{sym, _∙_}
 use borrow.Author.Needs.{needs}
-use Rattle.query.proofs.Extents.{lift-wide, lift-keep, lift-bars}
-use Rattle.query.proofs.lift.Statement.{statement}
-use Rattle.query.proofs.lift.Tie as tie
+use Rattle.extents.proofs.Extents.{lift-wide, lift-keep, lift-bars}
+use Rattle.extents.proofs.lift.Statement.{statement}
+use Rattle.extents.proofs.lift.Tie as tie
 
 enum-known-a : tie.Need-enum-known-a
 enum-known-a c = search needs

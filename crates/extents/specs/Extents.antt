@@ -4,8 +4,8 @@ use mathlib.Core.Bool.{cond, _&&_}
 use lib.Dec.{leb}
 use Rattle.model.specs.Rules.{Normal}
 use Rattle.model.specs.Size.{width, bars, narrow}
-use Rattle.query.specs.declared.Extent.{Extent}
-use Rattle.query.specs.declared.Extent.the-variants.{Wide, Narrow}
+use Rattle.extents.specs.declared.Extent.{Extent}
+use Rattle.extents.specs.declared.Extent.the-variants.{Wide, Narrow}
 
 unfoldable pub extentOf : Normal → Extent
 extentOf p = cond (narrow p) (Narrow (width p) (bars p)) Wide
