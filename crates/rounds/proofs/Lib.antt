@@ -1,5 +1,3 @@
 -- Laws that the proofs share.
-mod Reading
-mod Turns
 mod Starts
 mod Turned

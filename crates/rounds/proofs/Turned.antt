@@ -19,10 +19,11 @@ use Rattle.structure.specs.Layout.{decoded, rowsAt}
 use Rattle.structure.proofs.Places.{rows-add}
 use Rattle.structure.proofs.Standing.{rows-same}
 use Rattle.slots.specs.Slots.{number, Small, Offsets}
-use Rattle.rounds.specs.Said.{Both, Reached, Ended}
+use Rattle.round.specs.Said.{Both}
+use Rattle.start.specs.Ended.{Reached, Ended}
 use Rattle.rounds.specs.Pair.{Clocks, Known, Intersected}
 use Rattle.rounds.proofs.Starts.{clocks, length-clocks, start-at, intersected}
-use Rattle.rounds.specs.declared.Start.{Start}
+use Rattle.start.specs.declared.Start.{Start}
 
 module _ (n e : ℕ) (left right first code : List ℕ) where
   abbrev reachedBy : Structure → Structure → Cut → Option Cut

@@ -2,20 +2,16 @@
 use mathlib.Core.Path.{_≡_}
 use Prim.Native.Nat.{ℕ}
 use mathlib.Core.List.{List, map}
-use mathlib.Core.Option.{some}
 use lib.ListN.{take, drop}
 use Rattle.model.specs.Cut.{empty}
-use Rattle.model.specs.Computation.{Computation, Event, stations, full, clock, eventCount}
+use Rattle.model.specs.Computation.{Computation, Event, stations, full, eventCount}
 use Rattle.model.specs.Structure.{Structure}
 use Rattle.model.specs.Basis.{start}
 use Rattle.model.specs.Rounds.{roundsOfPair}
 use Rattle.structure.specs.Layout.{decoded, stationsAt}
-use Rattle.slots.specs.Slots.{Slots, Offsets}
-use Rattle.rounds.specs.Said.{Both}
-
--- The starts of a computation, the empty cut and each event's clock, as a table.
-abbrev pub Clocks : Computation → List ℕ → Type 0
-Clocks K first = Slots K (λ j k. some (clock K j k)) first
+use Rattle.slots.specs.Slots.{Offsets}
+use Rattle.round.specs.Said.{Both}
+pub use Rattle.start.specs.Ended.{Clocks}
 
 -- Two structures of a computation, its starts, and how its counts become numbers.
 pub record Known (K : Computation) (S T : Structure) (n e : ℕ) (left right first code : List ℕ) : Type 0 where

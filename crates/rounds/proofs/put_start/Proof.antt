@@ -2,7 +2,7 @@
 use mathlib.Core.Path.{_∙_, sym}
 use native.Mathlib.Omega.{arith}
 use lib.Seq.{take-set-le}
-use Rattle.rounds.proofs.Turns as laws
+use Rattle.start.proofs.Turns as laws
 use borrow.Author.Needs.{needs}
 use Rattle.rounds.proofs.put_start.Statement.{statement}
 use Rattle.rounds.proofs.put_start.Tie as tie

@@ -1,4 +1,4 @@
--- `rounds::more_rounds` meets its contract: what the rounds so far and what is left to run make together is the start's outcome.
+-- `start::more_rounds` meets its contract: what the rounds so far and what is left to run make together is the start's outcome.
 use mathlib.Core.Path.{_≡_, refl, _∙_}
 use Prim.Native.Nat.{suc, _+_, _-_, _≤_}
 use native.Mathlib.Omega.{arith}
@@ -10,11 +10,11 @@ use Rattle.model.specs.Structure.{Structure}
 use Rattle.lattice.proofs.Bases.{In}
 use Rattle.lattice.proofs.Shortcuts.{later, quickOn}
 use Rattle.slots.specs.Slots.{Coded}
-use Rattle.rounds.specs.Said.{Both}
-use Rattle.rounds.proofs.Turns as turns
+use Rattle.round.specs.Said.{Both}
+use Rattle.start.proofs.Turns as turns
 use borrow.Author.Needs.{needs}
-use Rattle.rounds.proofs.more_rounds.Statement.{statement}
-use Rattle.rounds.proofs.more_rounds.Tie as tie
+use Rattle.start.proofs.more_rounds.Statement.{statement}
+use Rattle.start.proofs.more_rounds.Tie as tie
 
 abbrev Inv-loop : tie.InvT-loop
 Inv-loop left right e cut₀ rounds₀ most cut rounds =

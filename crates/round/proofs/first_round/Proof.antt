@@ -1,4 +1,4 @@
--- `rounds::first_round` meets its contract: the row that is read is what the clock is raised to.
+-- `round::first_round` meets its contract: the row that is read is what the clock is raised to.
 use mathlib.Core.Path.{_≡_, sym, ap, subst, _∙_}
 use Prim.Native.Nat.{ℕ, _*_}
 use native.Mathlib.Omega.{arith}
@@ -9,10 +9,10 @@ use Rattle.model.specs.Computation.{clock}
 use Rattle.model.specs.Structure.{row, raise}
 use Rattle.slots.specs.Slots.{number, Says}
 use Rattle.lattice.proofs.Shortcuts.{raised}
-use Rattle.rounds.proofs.Reading as laws
+use Rattle.round.proofs.Reading as laws
 use borrow.Author.Needs.{needs}
-use Rattle.rounds.proofs.first_round.Statement.{statement}
-use Rattle.rounds.proofs.first_round.Tie as tie
+use Rattle.round.proofs.first_round.Statement.{statement}
+use Rattle.round.proofs.first_round.Tie as tie
 
 mul-cut-at : tie.Need-mul-cut-at
 mul-cut-at c = search needs

@@ -1,4 +1,4 @@
--- What the code's answers for a round and for a start say in the rule's terms: a definition for each, by the cases of its enum.
+-- What the code's answer for a round says in the rule's terms, by the cases of its enum.
 use mathlib.Core.Path.{_≡_}
 use Prim.Native.Nat.{ℕ}
 use mathlib.Core.Bool.{Bool, true, false}
@@ -11,12 +11,9 @@ use Rattle.model.specs.Basis as rule
 use Rattle.lattice.proofs.Bases.{In, Good}
 use Rattle.lattice.proofs.Shortcuts.{came, later}
 use Rattle.slots.specs.Slots.{Small, Coded, Slots}
-use Rattle.rounds.specs.declared.Round.{Round}
-use Rattle.rounds.specs.declared.Round.the-variants as round
-use Rattle.rounds.specs.declared.RoundResult.{RoundResult}
-use Rattle.rounds.specs.declared.Outcome.{Outcome}
-use Rattle.rounds.specs.declared.Outcome.the-variants as outcome
-use Rattle.rounds.specs.declared.Start.{Start}
+use Rattle.round.specs.declared.Round.{Round}
+use Rattle.round.specs.declared.Round.the-variants as round
+use Rattle.round.specs.declared.RoundResult.{RoundResult}
 
 -- Two structures of a basis, as tables.
 pub record Both (K : Computation) (S T : Structure) (left right : List ℕ) : Type 0 where
@@ -42,13 +39,3 @@ pub record Answers (K : Computation) (T : Structure) (F : (Cut → rule.Outcome)
   pub cut : Cut
   pub says : (go : Cut → rule.Outcome) → F go ≡ reading go (r .outcome) (r .settled) cut
   pub is : (changed : Bool) → r .outcome ≡ round.Raised changed → Coded K cut (r .cut) × In K T cut
-
--- What a start came to.
-unfoldable pub Reached : Computation → Outcome → List ℕ → Option Cut → Type 0
-Reached K outcome.Raised cut o = (x : Cut) × (o ≡ some x) × Coded K x cut
-Reached K outcome.Lost cut o = o ≡ none
-
--- A start's answer says the rule's outcome.
-pub record Ended (K : Computation) (o : rule.Outcome) (r : Start) : Type 0 where
-  pub rounds : r .rounds ≡ o .rounds
-  pub reached : Reached K (r .outcome) (r .cut) (o .reached)

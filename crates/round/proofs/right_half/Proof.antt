@@ -1,10 +1,10 @@
--- `rounds::right_half` meets its contract.
+-- `round::right_half` meets its contract.
 use mathlib.Core.Path.{_≡_, refl, sym, _∙_}
 use lib.ListN.{getD}
-use Rattle.rounds.proofs.Reading as laws
+use Rattle.round.proofs.Reading as laws
 use borrow.Author.Needs.{needs}
-use Rattle.rounds.proofs.right_half.Statement.{statement}
-use Rattle.rounds.proofs.right_half.Tie as tie
+use Rattle.round.proofs.right_half.Statement.{statement}
+use Rattle.round.proofs.right_half.Tie as tie
 
 raise-requires : tie.Need-raise-requires
 raise-requires c κs = search needs

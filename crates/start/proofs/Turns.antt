@@ -18,13 +18,13 @@ use Rattle.lattice.proofs.Shortcuts.{came, later, afterLeft, nextLeft, quickOn,
 use Rattle.structure.specs.Layout.{decoded}
 use Rattle.structure.proofs.Rows.{is-none, first-at}
 use Rattle.slots.specs.Slots.{number, Coded}
-use Rattle.rounds.specs.Said.{Both, reading, Answers, Reached, Ended}
-use Rattle.rounds.specs.Pair.{Clocks}
-use Rattle.rounds.specs.declared.Start.{Start}
-use Rattle.rounds.specs.declared.Round.the-variants as round
-use Rattle.rounds.specs.declared.RoundResult.{RoundResult}
-use Rattle.rounds.specs.declared.Outcome.{Outcome}
-use Rattle.rounds.specs.declared.Outcome.the-variants as outcome
+use Rattle.round.specs.Said.{Both, reading, Answers}
+use Rattle.start.specs.Ended.{Clocks, Reached, Ended}
+use Rattle.start.specs.declared.Start.{Start}
+use Rattle.round.specs.declared.Round.the-variants as round
+use Rattle.round.specs.declared.RoundResult.{RoundResult}
+use Rattle.start.specs.declared.Outcome.{Outcome}
+use Rattle.start.specs.declared.Outcome.the-variants as outcome
 
 -- ANSWERS
 

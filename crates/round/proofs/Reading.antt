@@ -17,9 +17,9 @@ use Rattle.lattice.proofs.Bases.{In, Good}
 use Rattle.lattice.proofs.Shortcuts.{raise-row, raised, came, settle, afterRight, afterLeft, unlessSame, nextLeft}
 use Rattle.slots.specs.Slots.{Small, Coded, Says}
 use Rattle.numbering.proofs.Numbers.{says-none, says-some, coded-same, cells-same}
-use Rattle.rounds.specs.Said.{Above, Both, reading, Answers}
-use Rattle.rounds.specs.declared.Round.the-variants.{Raised, Lost}
-use Rattle.rounds.specs.declared.RoundResult.{RoundResult}
+use Rattle.round.specs.Said.{Above, Both, reading, Answers}
+use Rattle.round.specs.declared.Round.the-variants.{Raised, Lost}
+use Rattle.round.specs.declared.RoundResult.{RoundResult}
 
 apart : (changed : Bool) → Lost ≡ Raised changed → {A : Type 0} → A
 apart changed e = let z : _≡_ {A = ℕ} 0 1 = cc in absurd (omega arith)

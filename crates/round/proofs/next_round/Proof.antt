@@ -1,13 +1,13 @@
--- `rounds::next_round` meets its contract.
+-- `round::next_round` meets its contract.
 use mathlib.Core.Path.{_≡_}
 use mathlib.Core.Option.{some}
 use Rattle.model.specs.Structure.{raise}
 use Rattle.model.specs.Basis.{thenRight}
 use Rattle.lattice.proofs.Tests.{clash}
-use Rattle.rounds.proofs.Reading as laws
+use Rattle.round.proofs.Reading as laws
 use borrow.Author.Needs.{needs}
-use Rattle.rounds.proofs.next_round.Statement.{statement}
-use Rattle.rounds.proofs.next_round.Tie as tie
+use Rattle.round.proofs.next_round.Statement.{statement}
+use Rattle.round.proofs.next_round.Tie as tie
 
 raise-requires : tie.Need-raise-requires
 raise-requires c κs = search needs

@@ -1,14 +1,14 @@
--- `rounds::one_start` meets its contract.
+-- `start::one_start` meets its contract.
 use mathlib.Core.Path.{_≡_, refl, sym, _∙_}
 use Prim.Native.Nat.{_*_}
 use native.Mathlib.Omega.{arith}
 use lib.ListN.{take, drop}
 use lib.Seq.{take-all}
 use borrow.Author.Tests.{not-true, not-false}
-use Rattle.rounds.proofs.Turns as laws
+use Rattle.start.proofs.Turns as laws
 use borrow.Author.Needs.{needs}
-use Rattle.rounds.proofs.one_start.Statement.{statement}
-use Rattle.rounds.proofs.one_start.Tie as tie
+use Rattle.start.proofs.one_start.Statement.{statement}
+use Rattle.start.proofs.one_start.Tie as tie
 
 mul-cut-at : tie.Need-mul-cut-at
 mul-cut-at c = search needs
