@@ -18,9 +18,9 @@ use Rattle.model.specs.Reply.{number}
 use Rattle.model.specs.declared.Fault.{Fault}
 use Rattle.codec.specs.Limits.{NoLarger}
 use Rattle.cells.specs.Put.{putOf}
-use Rattle.wire.specs.Walked.{Framed, Spoilt}
+use Rattle.walk.specs.Walked.{Framed, Spoilt}
 use Rattle.cells.proofs.Puts.{take-put, length-put, drop-put}
-use Rattle.wire.proofs.Carried.{items-frame, items-check, items-end}
+use Rattle.walk.proofs.Carried.{items-frame, items-check, items-end}
 use Rattle.frame.specs.declared.State.{State}
 use Rattle.frame.specs.declared.Admitted.{Admitted}
 use Rattle.frame.specs.declared.Step.{Step}

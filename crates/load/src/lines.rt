@@ -72,8 +72,8 @@ fn load_line(m: model::Limits, log: &[u8], p: Position, list: &mut [u8], store: 
 {
     let mut bytes = [0u8; 100];
     let at = p.at;
-    match wire::walk_line(log, at, &mut bytes) {
-        wire::Walk::Frame(k, sum, next) => {
+    match walk::walk_line(log, at, &mut bytes) {
+        walk::Walk::Frame(k, sum, next) => {
             if sum != 0 {
                 return Turn {
                     step: Step::Faulty(model::Fault::CheckByte),
@@ -83,7 +83,7 @@ fn load_line(m: model::Limits, log: &[u8], p: Position, list: &mut [u8], store: 
             let n = k - 1;
             load_frame(m, p, &bytes[..n], next, list, store)
         }
-        wire::Walk::Malformed => Turn {
+        walk::Walk::Malformed => Turn {
             step: Step::Faulty(model::Fault::LineForm),
             position: p,
         },

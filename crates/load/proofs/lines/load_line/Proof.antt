@@ -5,8 +5,8 @@ use native.Mathlib.Omega.{arith}
 use lib.ListN.{length, take}
 use lib.Seq.{length-take-le}
 use Rattle.model.specs.declared.Fault.the-variants.{LineForm, CheckByte}
-use Rattle.wire.specs.Walked.{Framed}
-use Rattle.wire.proofs.Carried.{walked-frame, walked-malformed}
+use Rattle.walk.specs.Walked.{Framed}
+use Rattle.walk.proofs.Carried.{walked-frame, walked-malformed}
 use Rattle.load.proofs.Loads.{reads-malformed, reads-check, reads-frame}
 use borrow.Author.Needs.{needs}
 use Rattle.load.proofs.lines.load_line.Statement.{statement}

@@ -10,9 +10,9 @@ use borrow.Author.Tests.{eq-eqb, ne-eqb}
 use Rattle.model.specs.Lists.{total}
 use Rattle.model.specs.Bytes.{linesOf, bytes, frame, bad, carried, items}
 use Rattle.codec.proofs.Cases.{between-in}
-use Rattle.wire.specs.Walked.{Framed, Spoilt, Walked}
-use Rattle.wire.specs.declared.Walk.{Walk}
-use Rattle.wire.specs.declared.Walk.the-variants.{Frame, Malformed}
+use Rattle.walk.specs.Walked.{Framed, Spoilt, Walked}
+use Rattle.walk.specs.declared.Walk.{Walk}
+use Rattle.walk.specs.declared.Walk.the-variants.{Frame, Malformed}
 
 -- The two cases of an answer.
 pub walked-frame : {log out : List ℕ} {at k s next : ℕ} → (r : Walk) → Walked log at r out → r ≡ Frame k s next → Framed log at k s next out

@@ -4,9 +4,9 @@ use mathlib.Core.Path.{sym, _∙_}
 use Prim.Native.Nat.{_-_}
 use native.Mathlib.Omega.{arith}
 use lib.ListN.{length}
-use Rattle.wire.proofs.Walks.{Walking, walk-start, walk-byte, walk-end, walk-many, walk-few, walk-broken, walk-over, leaves-many, leaves-end, leaves-broken, leaves-over}
-use Rattle.wire.proofs.walk_line.Statement.{statement}
-use Rattle.wire.proofs.walk_line.Tie as tie
+use Rattle.walk.proofs.Walks.{Walking, walk-start, walk-byte, walk-end, walk-many, walk-few, walk-broken, walk-over, leaves-many, leaves-end, leaves-broken, leaves-over}
+use Rattle.walk.proofs.walk_line.Statement.{statement}
+use Rattle.walk.proofs.walk_line.Tie as tie
 
 abbrev Inv-loop : tie.InvT-loop
 Inv-loop log at out₀ k₀ sum₀ i₀ out k sum i = Walking log at out₀ out k sum i

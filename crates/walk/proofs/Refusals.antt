@@ -8,10 +8,10 @@ use native.Mathlib.Omega.{arith}
 use lib.Dec.{eqb}
 use lib.ListN.{length, length-append}
 use Rattle.model.specs.Bytes.{Lines, more, rest, push, linesOf, digit, byte, bytes, Item, bad, carried, items}
-use Rattle.wire.specs.Pairs.{firstDigit, joined, pairOf}
-use Rattle.wire.specs.declared.Pair.the-variants.{End, Broken}
-use Rattle.wire.proofs.Digits.{between-under, between-over}
-use Rattle.wire.proofs.Fronts.{Front, pushes, pushes-more, pushes-rest, ahead}
+use Rattle.walk.specs.Pairs.{firstDigit, joined, pairOf}
+use Rattle.walk.specs.declared.Pair.the-variants.{End, Broken}
+use Rattle.walk.proofs.Digits.{between-under, between-over}
+use Rattle.walk.proofs.Fronts.{Front, pushes, pushes-more, pushes-rest, ahead}
 
 -- The bytes f in front of the lines ls make a first line that is refused.
 abbrev pub Refused : List ℕ → Lines → Type 0

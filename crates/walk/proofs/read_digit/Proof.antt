@@ -2,9 +2,9 @@
 use borrow.Author.Needs.{needs}
 use mathlib.Core.Path.{sym}
 use native.Mathlib.Omega.{arith}
-use Rattle.wire.proofs.Digits.{digit-number, digit-letter, digit-below, digit-amid, digit-above}
-use Rattle.wire.proofs.read_digit.Statement.{statement}
-use Rattle.wire.proofs.read_digit.Tie as tie
+use Rattle.walk.proofs.Digits.{digit-number, digit-letter, digit-below, digit-amid, digit-above}
+use Rattle.walk.proofs.read_digit.Statement.{statement}
+use Rattle.walk.proofs.read_digit.Tie as tie
 
 sub-t5 : tie.Need-sub-t5
 sub-t5 c = search needs

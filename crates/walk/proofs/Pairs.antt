@@ -10,9 +10,9 @@ use lib.ListN.{length, drop, getD, drop-of-length-le}
 use lib.Seq.{drop-cons}
 use borrow.Author.Tests.{eq-eqb, ne-eqb}
 use Rattle.model.specs.Bytes.{digit}
-use Rattle.wire.specs.Pairs.{firstDigit, joined, pairOf}
-use Rattle.wire.specs.declared.Pair.the-variants.{End, Broken}
-use Rattle.wire.proofs.Digits.{digit-no-end}
+use Rattle.walk.specs.Pairs.{firstDigit, joined, pairOf}
+use Rattle.walk.specs.declared.Pair.the-variants.{End, Broken}
+use Rattle.walk.proofs.Digits.{digit-no-end}
 
 module _ (s : List ℕ) (i : ℕ) (inside : i < length s) where
   here : pairOf (drop i s) ≡ cond (eqb (getD s i 0) 0x0A) End (joined (digit (getD s i 0)) (firstDigit (drop (i + 1) s)))

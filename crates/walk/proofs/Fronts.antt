@@ -8,10 +8,10 @@ use native.Mathlib.Omega.{arith}
 use lib.Dec.{eqb}
 use lib.ListN.{length, drop, length-append}
 use Rattle.model.specs.Bytes.{Lines, more, rest, push, linesOf, digit, byte, bytes}
-use Rattle.wire.specs.Pairs.{firstDigit, joined, pairOf}
-use Rattle.wire.specs.declared.Pair.{Pair}
-use Rattle.wire.specs.declared.Pair.the-variants.{Byte, End}
-use Rattle.wire.proofs.Digits.{digit-no-end}
+use Rattle.walk.specs.Pairs.{firstDigit, joined, pairOf}
+use Rattle.walk.specs.declared.Pair.{Pair}
+use Rattle.walk.specs.declared.Pair.the-variants.{Byte, End}
+use Rattle.walk.proofs.Digits.{digit-no-end}
 
 -- Bytes in front of the first line.
 unfoldable pub pushes : List ℕ → Lines → Lines

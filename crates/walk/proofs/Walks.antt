@@ -10,13 +10,13 @@ use lib.Seq.{take-suc-set, drop-drop, drop-set-lt, length-take-le}
 use Rattle.model.specs.Lists.{sum, total}
 use Rattle.model.specs.Bytes.{more, linesOf, bytes}
 use Rattle.lattice.proofs.Sums.{sum-snoc}
-use Rattle.wire.specs.Pairs.{pairOf}
-use Rattle.wire.specs.Walked.{Framed, Spoilt, lead}
+use Rattle.walk.specs.Pairs.{pairOf}
+use Rattle.walk.specs.Walked.{Framed, Spoilt, lead}
 use Rattle.cells.specs.Put.{putOf}
-use Rattle.wire.specs.declared.Pair.the-variants.{Byte, End, Broken}
-use Rattle.wire.proofs.Fronts.{Front, front-none, front-join, front-pair, lines-end, pushes, pushes-more, ahead}
+use Rattle.walk.specs.declared.Pair.the-variants.{Byte, End, Broken}
+use Rattle.walk.proofs.Fronts.{Front, front-none, front-join, front-pair, lines-end, pushes, pushes-more, ahead}
 use Rattle.cells.proofs.Puts.{put-front}
-use Rattle.wire.proofs.Refusals.{Refused, refused-faulty, refused-many, refused-few, refused-broken}
+use Rattle.walk.proofs.Refusals.{Refused, refused-faulty, refused-many, refused-few, refused-broken}
 
 -- ---- the pairs at the front
 lead-byte : (m : ℕ) (s : List ℕ) (b : ℕ) → pairOf s ≡ Byte b → lead (suc m) s ≡ b ∷ lead m (drop 2 s)

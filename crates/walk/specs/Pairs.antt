@@ -5,10 +5,10 @@ use mathlib.Core.List.{List, [], _∷_}
 use mathlib.Core.Option.{Option, none, some}
 use lib.Dec.{eqb}
 use Rattle.model.specs.Bytes.{digit}
-use Rattle.wire.specs.declared.Digit.{Digit}
-use Rattle.wire.specs.declared.Digit.the-variants.{Value, Bad}
-use Rattle.wire.specs.declared.Pair.{Pair}
-use Rattle.wire.specs.declared.Pair.the-variants.{Byte, End, Broken}
+use Rattle.walk.specs.declared.Digit.{Digit}
+use Rattle.walk.specs.declared.Digit.the-variants.{Value, Bad}
+use Rattle.walk.specs.declared.Pair.{Pair}
+use Rattle.walk.specs.declared.Pair.the-variants.{Byte, End, Broken}
 
 -- The value of each case.
 abbrev pub digitOf : Digit → Option ℕ

@@ -7,10 +7,10 @@ use Prim.Native.Nat.{_+_}
 use lib.ListN.{getD}
 use Rattle.model.specs.Bytes.{digit}
 use Rattle.codec.proofs.Hex.{hex-digit}
-use Rattle.wire.specs.Pairs.{digitOf}
-use Rattle.wire.proofs.Pairs.{pair-end, pair-none, pair-short, pair-two}
-use Rattle.wire.proofs.read_pair.Statement.{statement}
-use Rattle.wire.proofs.read_pair.Tie as tie
+use Rattle.walk.specs.Pairs.{digitOf}
+use Rattle.walk.proofs.Pairs.{pair-end, pair-none, pair-short, pair-two}
+use Rattle.walk.proofs.read_pair.Statement.{statement}
+use Rattle.walk.proofs.read_pair.Tie as tie
 
 -- The entry and the high digit, as seen from where each digit is known.
 abbrev entry : tie.After-known-told → tie.Start

@@ -6,11 +6,11 @@ use mathlib.Core.Option.{some}
 use lib.ListN.{length, take, drop}
 use Rattle.model.specs.Lists.{total}
 use Rattle.model.specs.Bytes.{more, linesOf, bytes, Item, bad, items}
-use Rattle.wire.specs.declared.Pair.{Pair}
-use Rattle.wire.specs.declared.Pair.the-variants.{Byte, End, Broken}
-use Rattle.wire.specs.declared.Walk.{Walk}
-use Rattle.wire.specs.declared.Walk.the-variants.{Frame, Malformed}
-use Rattle.wire.specs.Pairs.{pairOf}
+use Rattle.walk.specs.declared.Pair.{Pair}
+use Rattle.walk.specs.declared.Pair.the-variants.{Byte, End, Broken}
+use Rattle.walk.specs.declared.Walk.{Walk}
+use Rattle.walk.specs.declared.Walk.the-variants.{Frame, Malformed}
+use Rattle.walk.specs.Pairs.{pairOf}
 
 -- A line of 2 to 100 bytes, now the first k of out, with their sum; the next line starts at `next`.
 pub record Framed (log : List ℕ) (at k sum next : ℕ) (out : List ℕ) : Type 0 where
