@@ -23,8 +23,8 @@ use Rattle.codec.proofs.Cases.{cases, and-true, between-true}
 -- ONE FRAME
 
 -- A frame that is let in, with the tests that it passed, and what has been read after it.
-pub data Admitted (m : Limits) (r : Reading) : List ℕ → Reading → Type 0 where
-  a-header : {f : List ℕ} → begun r ≡ false → headerForm m f ≡ true → Admitted m r (0x10 ∷ f) (withHeader r f)
+pub data Admission (m : Limits) (r : Reading) : List ℕ → Reading → Type 0 where
+  a-header : {f : List ℕ} → begun r ≡ false → headerForm m f ≡ true → Admission m r (0x10 ∷ f) (withHeader r f)
   a-event :
       {f : List ℕ}
       → begun r ≡ true
@@ -32,7 +32,7 @@ pub data Admitted (m : Limits) (r : Reading) : List ℕ → Reading → Type 0 w
       → ltb (eventCount (r .computation)) (m .events) ≡ true
       → eventForm (stations (r .computation)) f ≡ true
       → clockOk (r .computation) (stationOf f) (eventOf f .clock) ≡ true
-      → Admitted m r (0x20 ∷ f) (withEvent r f)
+      → Admission m r (0x20 ∷ f) (withEvent r f)
   a-question :
       {f : List ℕ} {φ : Formula}
       → begun r ≡ true
@@ -40,7 +40,7 @@ pub data Admitted (m : Limits) (r : Reading) : List ℕ → Reading → Type 0 w
       → formulaOf f ≡ some φ
       → sound (stations (r .computation)) φ ≡ true
       → fits φ ≡ true
-      → Admitted m r (0x30 ∷ f) (withQuestion r f φ)
+      → Admission m r (0x30 ∷ f) (withQuestion r f φ)
 
 fault-go : {B : Type 0} {k : ℕ} {r : Reading} → fault k ≡ go r → B
 fault-go e = let z : _≡_ {A = ℕ} 0 1 = cc in absurd (omega arith)
@@ -51,7 +51,7 @@ check-go k true s r e = (refl, e)
 check-go k false s r e = fault-go e
 
 module _ (m : Limits) (r s : Reading) (f : List ℕ) where
-  by-header : admitHeader m r f ≡ go s → Admitted m r (0x10 ∷ f) s
+  by-header : admitHeader m r f ≡ go s → Admission m r (0x10 ∷ f) s
   unfolding admitHeader
   by-header e =
       let a = check-go 4 (bool.not (begun r)) _ s e in
@@ -59,7 +59,7 @@ module _ (m : Limits) (r s : Reading) (f : List ℕ) where
       let n : withHeader r f ≡ s = cc (b .1) in
       rw (← n) (a-header (not-true (begun r) (a .0)) (b .0))
 
-  by-event : admitEvent m r f ≡ go s → Admitted m r (0x20 ∷ f) s
+  by-event : admitEvent m r f ≡ go s → Admission m r (0x20 ∷ f) s
   unfolding admitEvent
   by-event e =
       let a = check-go 4 (begun r && unasked r && ltb (eventCount (r .computation)) (m .events)) _ s e in
@@ -70,7 +70,7 @@ module _ (m : Limits) (r s : Reading) (f : List ℕ) where
       let n : withEvent r f ≡ s = cc (c .1) in
       rw (← n) (a-event (u .0) (u .1) (t .1) (b .0) (c .0))
 
-  by-asked : (o : Option Formula) → formulaOf f ≡ o → begun r ≡ true → ltb (length (r .questions)) (m .questions) ≡ true → asked r f o ≡ go s → Admitted m r (0x30 ∷ f) s
+  by-asked : (o : Option Formula) → formulaOf f ≡ o → begun r ≡ true → ltb (length (r .questions)) (m .questions) ≡ true → asked r f o ≡ go s → Admission m r (0x30 ∷ f) s
   unfolding asked
   by-asked none p h g e = fault-go e
   by-asked (some φ) p h g e =
@@ -79,7 +79,7 @@ module _ (m : Limits) (r s : Reading) (f : List ℕ) where
       let n : withQuestion r f φ ≡ s = cc (b .1) in
       rw (← n) (a-question h g p (a .0) (b .0))
 
-  by-question : admitQuestion m r f ≡ go s → Admitted m r (0x30 ∷ f) s
+  by-question : admitQuestion m r f ≡ go s → Admission m r (0x30 ∷ f) s
   unfolding admitQuestion
   by-question e =
       let a = check-go 4 (begun r && ltb (length (r .questions)) (m .questions)) _ s e in
@@ -87,7 +87,7 @@ module _ (m : Limits) (r s : Reading) (f : List ℕ) where
       by-asked (formulaOf f) refl (t .0) (t .1) (a .1)
 
 -- The kind decides which rule a frame passed.
-pub admitted : (m : Limits) (r s : Reading) (f : List ℕ) → admit m r f ≡ go s → Admitted m r f s
+pub admitted : (m : Limits) (r s : Reading) (f : List ℕ) → admit m r f ≡ go s → Admission m r f s
 unfolding admit
 admitted m r s [] e = fault-go e
 admitted m r s (k ∷ f) e =
@@ -147,7 +147,7 @@ finish-accepted r s e = cases (begun r) e (λ b e. let n : r ≡ s = cc in (n, s
 -- What holds before the first frame, and is kept by each frame that is let in, holds of all that was read.
 pub readItems-invariant :
     (m : Limits) (P : Reading → Type 0)
-    → ((r s : Reading) (f : List ℕ) → P r → Admitted m r f s → P s)
+    → ((r s : Reading) (f : List ℕ) → P r → Admission m r f s → P s)
     → (n : ℕ) (r s : Reading) (l : List Item)
     → P r
     → readItems m n r l ≡ accepted s
@@ -168,7 +168,7 @@ accepted-begun m n r s (frame f ∷ l) e =
     let x = proceed-accepted _ n (admit m r f) s e in
     accepted-begun m (suc n) (x .0) s l (x .2)
 
-admitted-frames : {m : Limits} {r s : Reading} {f : List ℕ} → Admitted m r f s → s .frames ≡ r .frames ++ (f ∷ [])
+admitted-frames : {m : Limits} {r s : Reading} {f : List ℕ} → Admission m r f s → s .frames ≡ r .frames ++ (f ∷ [])
 admitted-frames (a-header h g) = refl
 admitted-frames (a-event h g k t u) = refl
 admitted-frames (a-question h g k t u) = refl

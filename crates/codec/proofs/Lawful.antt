@@ -22,7 +22,7 @@ use Rattle.codec.proofs.Bytes.{Bytes, bytes-drop, word-small, words-sma
 use Rattle.codec.proofs.Cases.{none-some, Each}
 use Rattle.codec.proofs.Snoc.{empty-list, getElem?-snoc, each-snoc}
 use Rattle.codec.proofs.QuestionFrames.{Framed, framed-none, framed-other, framed-question}
-use Rattle.codec.proofs.Accepted.{Admitted, a-header, a-event, a-question, admitted, begun-true, begun-false, unasked-true, Header, header-true, event-true}
+use Rattle.codec.proofs.Accepted.{Admission, a-header, a-event, a-question, admitted, begun-true, begun-false, unasked-true, Header, header-true, event-true}
 
 pub record Lawful (m : Limits) (r : Reading) : Type 0 where
   -- before the header nothing has been read
@@ -73,7 +73,7 @@ nothing-lawful m = record {
   counted = λ h. absurd (omega arith);
 }
 
-pub admitted-lawful : {m : Limits} {r : Reading} {f : List ℕ} {r′ : Reading} → Lawful m r → Admitted m r f r′ → Lawful m r′
+pub admitted-lawful : {m : Limits} {r : Reading} {f : List ℕ} {r′ : Reading} → Lawful m r → Admission m r f r′ → Lawful m r′
 admitted-lawful {m} {r} law (a-header {f = f} first form) = record {
   blank = λ h. absurd (omega (arith, many, sizes));
   valid = opened-valid values;

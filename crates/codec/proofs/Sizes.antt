@@ -19,7 +19,7 @@ use Rattle.lattice.proofs.Held.{fits-to}
 use Rattle.codec.specs.Limits.{Suitable}
 use Rattle.codec.proofs.Formulas.{length-formula}
 use Rattle.codec.proofs.Lines.{length-line}
-use Rattle.codec.proofs.Accepted.{Admitted, a-header, a-event, a-question, begun-true, begun-false, header-true, event-true, readItems-invariant, accepted-frames}
+use Rattle.codec.proofs.Accepted.{Admission, a-header, a-event, a-question, begun-true, begun-false, header-true, event-true, readItems-invariant, accepted-frames}
 use Rattle.codec.proofs.Lawful.{Lawful, nothing-lawful, admitted-lawful}
 -- Two bytes a number.
 pub use Rattle.codec.proofs.Bytes.{length-words}
@@ -86,10 +86,10 @@ module _ {m : Limits} (fit : Suitable m) (r : Reading) (law : Lawful m r) (h : L
       let k = length-log-more (r .frames) (0x30 ∷ f) in
       omega arith
 
-keeps : {m : Limits} → Suitable m → (r s : Reading) (f : List ℕ) → Lawful m r × Lengths r → Admitted m r f s → Lawful m s × Lengths s
+keeps : {m : Limits} → Suitable m → (r s : Reading) (f : List ℕ) → Lawful m r × Lengths r → Admission m r f s → Lawful m s × Lengths s
 keeps {m} fit r s f (law, h) a = (admitted-lawful law a, lengths a)
   where
-    lengths : {f : List ℕ} {s : Reading} → Admitted m r f s → Lengths s
+    lengths : {f : List ℕ} {s : Reading} → Admission m r f s → Lengths s
     lengths (a-header {f = g} b t) = keeps-header fit r law h g b t
     lengths (a-event {f = g} b u n t c) = keeps-event fit r law h g b t
     lengths (a-question {f = g} {φ = φ} b n p t c) = keeps-question fit r law h g φ p c
