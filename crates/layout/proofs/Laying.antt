@@ -18,7 +18,7 @@ use Rattle.structure.specs.Laid.{Laid, Facts}
 use Rattle.model.specs.Limits.{limits, startsSize, factsSize, storeSize}
 use Rattle.table.specs.Table.{slot}
 use Rattle.layout.specs.Rows.{inTurn, clockIn, clocksIn, startsIn, valuesOf, valuesIn}
-use Rattle.layout.specs.Loaded.{Loaded}
+use Rattle.layout.specs.StoredValid.{StoredValid}
 use Rattle.layout.proofs.Totals.{sum-next, sum-few, rows-fit}
 use Rattle.layout.proofs.Turns.{spread, turns, turn-at, turn-total}
 use Rattle.layout.proofs.Cells.{Rows, clocks, stations-are}
@@ -29,7 +29,7 @@ pub shaped-of : (n e : ℕ) (counts offs : List ℕ) → 0 < n → n ≤ limits 
 shaped-of n e counts offs z small few t-is o = record { some-station = z; few-stations = small; few-events = omega arith; events-are = t-is; offs-are = o }
 
 -- the counts of a loaded log
-module _ {K : Computation} {n : ℕ} {counts t : List ℕ} (g : Loaded K n counts t) (fit : n ≤ length counts) where
+module _ {K : Computation} {n : ℕ} {counts t : List ℕ} (g : StoredValid K n counts t) (fit : n ≤ length counts) where
   pub counts-full : take n counts ≡ full K
   counts-full =
       let x : length (take n counts) ≡ n = length-take-le n counts fit in

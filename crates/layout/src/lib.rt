@@ -9,13 +9,13 @@ use crate::starts::lay_starts;
 use crate::values::lay_values;
 use structure::Shape;
 ghost use mathlib.Core.Path.{_≡_};
-ghost use Prim.Native.Nat.{ℕ, _≤_, _<_};
+ghost use Prim.Native.Nat.{_≤_, _<_};
 ghost use lib.ListN.{length, take};
 ghost use Rattle.model.specs.Limits.{limits, startsSize, factsSize, storeSize};
 ghost use Rattle.model.specs.Lists.{total};
 ghost use Rattle.model.specs.Computation.{Computation};
 ghost use Rattle.structure.specs.Laid.{Laid, Facts};
-ghost use Rattle.layout.specs.Loaded.{Loaded};
+ghost use Rattle.layout.specs.StoredValid.{StoredValid};
 
 // Lays the store of n stations and e events out in starts and facts, and gives its shape.
 pub fn lay(
@@ -28,7 +28,7 @@ pub fn lay(
 ) -> Shape
     requires { ⌜ (0 < n) × (n ≤ limits .stations) × (length (now store) ≡ storeSize) × (startsSize ≤ length (now starts)) × (factsSize ≤ length (now facts)) ⌝ }
     requires { ⌜ (length counts ≡ limits .stations) × (total (take n counts) ≡ e) × (e ≤ limits .events) ⌝ }
-    ensures { λ x. ⌜ (x .n ≡ n) × (x .e ≡ e) × ((K : Computation) → Loaded K n counts (now (store .entry)) → Laid K x (now (starts .exit)) × Facts K x (now (facts .exit))) ⌝ }
+    ensures { λ x. ⌜ (x .n ≡ n) × (x .e ≡ e) × ((K : Computation) → StoredValid K n counts (now (store .entry)) → Laid K x (now (starts .exit)) × Facts K x (now (facts .exit))) ⌝ }
 {
     let offs = offsets(counts, n);
     let x = Shape {

@@ -31,7 +31,7 @@ use Rattle.frame.specs.declared.State.{State}
 use Rattle.frame.specs.State.{firstQuestion, Bounded}
 use Rattle.load.specs.Loading.{Accepts}
 use Rattle.load.proofs.Questions.{good, question-frame}
-use Rattle.layout.specs.Loaded.{Loaded}
+use Rattle.layout.specs.StoredValid.{StoredValid}
 use Rattle.question.specs.Questions.{Asks, Question, cellsHeld}
 
 -- There is a question at each number below their count, and none from there on.
@@ -70,7 +70,7 @@ module _ {m : Limits} {log : List ℕ} {s : State} {k : ℕ} {list t : List ℕ}
 
   -- THE COMPUTATION
 
-  pub loaded : Loaded (a .reading .computation) (s .stations) (s .counts) t
+  pub loaded : StoredValid (a .reading .computation) (s .stations) (s .counts) t
   loaded = record { stored = a .holds .stored; valid = law .valid }
 
   pub counts-total : NoLarger m limits → total (take (s .stations) (s .counts)) ≡ s .events

@@ -6,6 +6,6 @@ use Rattle.lattice.proofs.Valid.{Valid}
 use Rattle.table.specs.Table.{Stored}
 
 -- The store holds K of n stations, which is lawful.
-pub record Loaded (K : Computation) (n : ℕ) (counts t : List ℕ) : Type 0 where
+pub record StoredValid (K : Computation) (n : ℕ) (counts t : List ℕ) : Type 0 where
   pub stored : Stored K n counts t
   pub valid : Valid K
