@@ -57,10 +57,12 @@ fn precedes(cut: &[u8], cuts: &[u8], at: usize, n: usize) -> bool
 {
     let mut j = 0;
     while j < n {
-        if cut[j] < cuts[at + j] {
+        let a = cut[j];
+        let b = cuts[at + j];
+        if a < b {
             return true;
         }
-        if cuts[at + j] < cut[j] {
+        if b < a {
             return false;
         }
         j += 1;
