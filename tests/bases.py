@@ -1,20 +1,17 @@
-#!/usr/bin/env python3
-"""Makes logs with questions, and the basis of each question by document 01's rule.
+"""Logs with questions, and the basis of each question by document 01's rule.
 
-Usage: bases.py FOLDER [SEED]      writes FOLDER/stdin and FOLDER/stdout; the same arguments give the same bytes
 The bench log and others, up to 8 stations, 127 events and a width of 16. A set of cuts is kept as the function that raises a cut in
 it, never as rows, so that no code or shape is shared with the product. Where the cuts are few a plain listing has to agree.
 """
-import pathlib
 import sys
 from functools import cache
 from math import prod
 
 from bench_cases import ALL, ladder
-from corpus import Draw, formula, word
-from listing import Listing, Refused, Walk, admit, contained, encode, read
+from frames import Draw, atom, case, computation, formula, log_of
+from listing import Listing, Refused, Walk, admit, contained, read
 
-SEED, LISTED = 20261115, 1500
+LISTED = 1500
 
 
 def join(c, d):
@@ -30,11 +27,6 @@ class Structure:
 
 class Rule(Walk):
     """The bases of a log's questions, and the rounds of the one worked out last."""
-
-    def __init__(self, log):
-        self.log, self.rounds = log, 0
-        self.empty = (0,) * len(log.initial)
-        self.starts = [self.empty] + [clock for events in log.history for _, clock in events]
 
     def kept(self, raised, bars):
         """A structure, unless it is dropped."""
@@ -56,18 +48,9 @@ class Rule(Walk):
         return self.kept(raised, [])
 
     def pair(self, left, right):
-        def start(c):
-            rounds = 0
-            while True:
-                rounds += 1
-                d = left.raised(c)
-                d = d and right.raised(d)
-                if d is None or d == c:
-                    return d, rounds
-                c = d
-
-        self.rounds += sum(start(c)[1] for c in self.starts)
-        return self.kept(lambda c: start(c)[0], left.bars + right.bars)
+        both = lambda c: self.raised_in_both(left.raised, right.raised, c)
+        self.rounds += sum(both(c)[1] for c in self.starts)
+        return self.kept(lambda c: both(c)[0], left.bars + right.bars)
 
     def below(self, s):
         return self.kept(lambda c: c if contained(c, s.top) else None, [])
@@ -80,6 +63,11 @@ class Rule(Walk):
         self.rounds = 0
         basis = self.basis(f, True)
         return [(s.least, s.top, s.bars) for s in basis], self.rounds
+
+
+def few(log):
+    """Are the cuts few enough to list?"""
+    return prod(len(events) + 1 for events in log.history) <= LISTED
 
 
 def listed(log, f):
@@ -100,10 +88,9 @@ def printed(data):
     def line(name, numbers):
         lines.append(" ".join([name, *map(str, numbers)]) + "\n")
 
-    few = prod(len(events) + 1 for events in log.history) <= LISTED
     for f in log.questions:
         basis, rounds = rule.question(f)
-        if few and (basis, rounds) != listed(log, f):
+        if few(log) and (basis, rounds) != listed(log, f):
             sys.exit(f"rule and listing differ on {f}")
         line("structures", [len(basis)])
         for least, top, bars in basis:
@@ -115,15 +102,15 @@ def printed(data):
     return "".join(lines)
 
 
-def atom(d, n, most=6):
+def some(d, n, most=6):
     """A range of at most so many of the eight values."""
     lo = d.below(8)
-    return [1, d.below(n)] + word(lo) + word(min(lo + d.below(most), 7))
+    return atom(d.below(n), lo, min(lo + d.below(most), 7))
 
 
 def part(d, n):
     """One structure, sometimes with a bar."""
-    return d.pick([[], [], [], [2], [5], [2, 6], [2, 5], [6, 2]]) + atom(d, n)
+    return d.pick([[], [], [], [2], [5], [2, 6], [2, 5], [6, 2]]) + some(d, n)
 
 
 def wide(d, n):
@@ -136,13 +123,13 @@ def wide(d, n):
 def barred(d, n):
     """Several bars at once: alone, under possibly, or joined with another part."""
     ways = 2 + d.below(3)
-    bars = d.pick([[2, 5], [6, 2]]) + [4] * (ways - 1) + [b for _ in range(ways) for b in d.pick([[], [3] + atom(d, n)]) + atom(d, n, 3)]
+    bars = d.pick([[2, 5], [6, 2]]) + [4] * (ways - 1) + [b for _ in range(ways) for b in d.pick([[], [3] + some(d, n)]) + some(d, n, 3)]
     return d.pick([bars, [5] + bars, [3] + part(d, n) + bars, [3] + bars + part(d, n), [5, 3] + bars + part(d, n)])
 
 
 def empty(d, n):
     """An operand with no structure beside one with rounds."""
-    never, pair = [1, d.below(n)] + word(8) + word(9), [3] + part(d, n) + part(d, n)
+    never, pair = atom(d.below(n), 8, 9), [3] + part(d, n) + part(d, n)
     return d.pick([[3] + never + pair, [3] + pair + never, [2, 4, 2] + never + [2] + pair])
 
 
@@ -160,18 +147,9 @@ def question(d, log):
 
 def drawn(d, n, events, questions):
     """A computation of n stations with messages between them, and questions."""
-    frames = [[0x10, n] + [b for _ in range(n) for b in word(d.below(8))]]
-    last = [[0] * n for _ in range(n)]
-    for _ in range(events):
-        s = d.below(n)
-        clock = list(last[s])
-        if d.below(2) == 0:
-            clock = list(join(clock, last[d.below(n)]))
-        clock[s] = last[s][s] + 1
-        last[s] = clock
-        frames.append([0x20, s] + word(d.below(8)) + clock)
-    log = read(b"".join(map(encode, frames)))
-    return b"".join(map(encode, frames + [[0x30] + question(d, log) for _ in range(questions)]))
+    frames, _ = computation(d, n, events, 8, 2)
+    log = read(log_of(frames))
+    return log_of(frames + [[0x30] + question(d, log) for _ in range(questions)])
 
 
 def logs(seed):
@@ -185,12 +163,6 @@ def logs(seed):
     yield b"\n"
 
 
-def main():
-    folder = pathlib.Path(sys.argv[1])
-    made = list(logs(int(sys.argv[2]) if len(sys.argv) > 2 else SEED))
-    (folder / "stdin").write_bytes(b"".join(log + b".\n" for log in made))
-    (folder / "stdout").write_text("".join(printed(log) + ".\n" for log in made))
-
-
-if __name__ == "__main__":
-    main()
+def cases(seed):
+    for log in logs(seed):
+        yield case("B", log), b"B\n" + printed(log).encode()

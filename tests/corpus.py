@@ -1,47 +1,12 @@
-#!/usr/bin/env python3
-"""Makes a corpus of small logs and what the program is to print for each, by a plain listing of every cut.
+"""A corpus of small logs and what the program is to print for each, by a plain listing of every cut.
 
-Usage: corpus.py FOLDER [LOGS] [SEED]      writes FOLDER/stdin and FOLDER/stdout; the same arguments give the same bytes
 Logs have 1 to 4 stations, up to 8 events and questions nested up to 5 deep; about two in five are damaged in a way that document 01
-names. Some more meet its limits: 16 cuts, structures and bars, over 65,535 rounds, 65 rounds a start, 0 and 9 stations. Each log, and each output, is closed by a line with a full stop; the last log has no end of line and so none.
+names. Some more meet its limits: 16 cuts, structures and bars, over 65,535 rounds, 65 rounds a start, 0 and 9 stations.
 """
-import pathlib
-import sys
-
+from frames import ONE, Draw, atom, case, computation, drawn_atom, formula, log_of, word
 from listing import encode, printed
 
-LOGS, EDGES, ENDS, SEED = 4600, 80, 12, 20261115
-
-
-class Draw:
-    """Numbers from a seed, by a linear congruential rule of 64 bits."""
-
-    def __init__(self, seed):
-        self.state = seed
-
-    def below(self, n):
-        self.state = (self.state * 6364136223846793005 + 1442695040888963407) % 2**64
-        return (self.state >> 33) % n
-
-    def pick(self, items):
-        return items[self.below(len(items))]
-
-
-def word(v):
-    return [v // 256, v % 256]
-
-
-def atom(d, n, top):
-    lo = d.below(top)
-    return [1, d.below(n)] + word(lo) + word(lo + d.below(top - lo))
-
-
-def formula(d, n, depth, top=4):
-    """A formula's bytes, nested at most depth deep."""
-    t = d.pick([1, 1, 2, 3, 3, 4, 4, 5, 6]) if depth > 1 else 1
-    if t == 1:
-        return atom(d, n, top)
-    return [t] + [b for _ in range(2 if t in (3, 4) else 1) for b in formula(d, n, depth - 1, top)]
+LOGS, EDGES, ENDS = 4600, 80, 12
 
 
 def moments(d, seen):
@@ -59,18 +24,7 @@ def question(d, seen):
 def frames(d):
     """Header, events and questions of a valid computation; a question may be too large."""
     n, events = 1 + d.below(4), d.below(9)
-    seen = [[d.below(4)] for _ in range(n)]
-    out = [[0x10, n] + [b for vs in seen for b in word(vs[0])]]
-    last = [[0] * n for _ in range(n)]
-    for _ in range(events):
-        s = d.below(n)
-        clock = list(last[s])
-        if d.below(3) == 0:
-            clock = [max(a, b) for a, b in zip(clock, last[d.below(n)])]
-        clock[s] = last[s][s] + 1
-        last[s] = clock
-        seen[s].append(d.below(4))
-        out.append([0x20, s] + word(seen[s][-1]) + clock)
+    out, seen = computation(d, n, events, 4, 3)
     return out + [[0x30] + question(d, seen) for _ in range(1 + d.below(3))]
 
 
@@ -112,11 +66,11 @@ def damaged(d, fs):
     elif way == 9:
         fs[0][1] = d.pick([0, 9, n + 1])
     elif way == 10:
-        fs.append([0x30] + [2] * d.pick([31, 32, 40, 60]) + atom(d, n, 4))
+        fs.append([0x30] + [2] * d.pick([31, 32, 40, 60]) + drawn_atom(d, n, 4))
     elif way == 11:
-        fs.append([0x30] + [d.pick([3, 4])] * 12 + [b for _ in range(13) for b in atom(d, n, 4)])
+        fs.append([0x30] + [d.pick([3, 4])] * 12 + [b for _ in range(13) for b in drawn_atom(d, n, 4)])
     elif way == 12:
-        fs += [[0x30] + atom(d, n, 4) for _ in range(d.pick([13, 14, 15, 16]))]
+        fs += [[0x30] + drawn_atom(d, n, 4) for _ in range(d.pick([13, 14, 15, 16]))]
     else:
         fs.append([0x30] + wide(d, n))
     return fs
@@ -140,7 +94,7 @@ def spoiled(d, log):
 
 
 def ors(d, n, k):
-    return [4] * (k - 1) + [b for _ in range(k) for b in atom(d, n, 4)]
+    return [4] * (k - 1) + [b for _ in range(k) for b in drawn_atom(d, n, 4)]
 
 
 def bounded(d, n):
@@ -150,7 +104,7 @@ def bounded(d, n):
     if kind == 0:
         return ways(*d.pick([(4, 4), (2, 8), (5, 3), (5, 4), (3, 6), (2, 9)]))
     if kind == 1:
-        return [4] + ways(*d.pick([(4, 4), (5, 3)])) + atom(d, n, 4)
+        return [4] + ways(*d.pick([(4, 4), (5, 3)])) + drawn_atom(d, n, 4)
     return [3, 2, 5] + ways(3, 3) + [2, 5] + ways(*d.pick([(2, 3), (2, 4), (3, 3)]))
 
 
@@ -176,9 +130,9 @@ def edges(d):
     """Logs at limits that drawn ones seldom meet."""
     for _ in range(EDGES):
         fs = frames(d)
-        yield b"".join(map(encode, fs + [[0x30] + bounded(d, fs[0][1])]))
-        yield b"".join(map(encode, forgetful(d)))
-        yield lowered(d, b"".join(map(encode, fs)))
+        yield log_of(fs + [[0x30] + bounded(d, fs[0][1])])
+        yield log_of(forgetful(d))
+        yield lowered(d, log_of(fs))
 
 
 def joined(d, token, parts):
@@ -210,9 +164,9 @@ def apart(d, kind):
 def turns(d):
     """A station that changes sides with each of 127 events, and a question about both: each of 16 pairs takes over 4,000 rounds."""
     step, last = d.pick([1, 255, 21845]), 1 + d.below(2)
-    side = lambda v: [1, 0] + word(v * step) + word(v * step + step)
+    side = lambda v: atom(0, v * step, v * step + step)
     values = [k % 2 * 2 * step for k in range(127)] + [last * step]
-    out = [[0x10, 1, 0, 0]] + [[0x20, 0] + word(v) + [k] for k, v in enumerate(values) if k > 0]
+    out = [ONE] + [[0x20, 0] + word(v) + [k] for k, v in enumerate(values) if k > 0]
     q = [3] + joined(d, 4, [side(0)] * 4) + joined(d, 4, [side(1)] * 4)
     for _ in range(d.below(5)):
         q = d.pick([[3] + q + side(d.below(2)), [3] + side(d.below(2)) + q])
@@ -221,41 +175,33 @@ def turns(d):
 
 def miscounted(d, n):
     """A good header but for its station count, 0 or 9; half have a question that is good with one station or more."""
-    return [[0x10, n] + [0, d.below(4)] * n] + [[0x30] + atom(d, 1, 4)] * d.below(2)
+    return [[0x10, n] + [0, d.below(4)] * n] + [[0x30] + drawn_atom(d, 1, 4)] * d.below(2)
 
 
 def ends(d):
     """Logs at the upper ends of document 01's limits."""
     for _ in range(ENDS):
         for fs in [apart(d, 0), apart(d, 1), apart(d, 2), turns(d), miscounted(d, 0), miscounted(d, 9)]:
-            yield b"".join(map(encode, fs))
+            yield log_of(fs)
 
 
-def logs(count, seed):
+def logs(seed):
     d = Draw(seed)
     yield b""
     yield b"\n"
     yield b"0" * 8192 + b"\n"
-    yield encode([0x10, 1, 0, 0]) * 3
-    for _ in range(count - 5 - 3 * EDGES - 6 * ENDS):
+    yield encode(ONE) * 3
+    for _ in range(LOGS - 5 - 3 * EDGES - 6 * ENDS):
         fs, way = frames(d), d.below(10)
         if way < 3:
             fs = damaged(d, fs)
-        log = b"".join(map(encode, fs))
+        log = log_of(fs)
         yield spoiled(d, log) if way == 9 else log
     yield from edges(d)
     yield from ends(d)
-    yield encode([0x10, 1, 0, 0])[:-1]
+    yield encode(ONE)[:-1]
 
 
-def main():
-    folder = pathlib.Path(sys.argv[1])
-    count = int(sys.argv[2]) if len(sys.argv) > 2 else LOGS
-    seed = int(sys.argv[3]) if len(sys.argv) > 3 else SEED
-    made = list(logs(count, seed))
-    (folder / "stdin").write_bytes(b".\n".join(made))
-    (folder / "stdout").write_bytes(b"".join(printed(log) + b".\n" for log in made))
-
-
-if __name__ == "__main__":
-    main()
+def cases(seed):
+    for log in logs(seed):
+        yield case("P", log), b"P\n" + printed(log)

@@ -158,6 +158,11 @@ def read(data):
 class Walk:
     """The structures of a formula, as true or as false. What a structure is, is said by atom, pair, below and barred."""
 
+    def __init__(self, log):
+        self.log, self.rounds = log, 0
+        self.empty = (0,) * len(log.initial)
+        self.starts = [self.empty] + [clock for events in log.history for _, clock in events]
+
     def basis(self, f, sign):
         t = f[0]
         if t == 1:
@@ -172,17 +177,25 @@ class Walk:
         operand = self.basis(f[1], t == 5)
         return [s for x in operand for s in self.below(x)] if joined_as(t, sign) == "possibly" else self.barred(operand)
 
+    def raised_in_both(self, first, second, c):
+        """A cut raised in two sets by turns until it stays, or None, and the rounds that took."""
+        rounds = 0
+        while True:
+            rounds += 1
+            d = first(c)
+            d = d and second(d)
+            if d is None or d == c:
+                return d, rounds
+            c = d
+
 
 class Listing(Walk):
     """All consistent cuts of a log, and truth at each."""
 
     def __init__(self, log):
-        self.log, n = log, len(log.initial)
+        super().__init__(log)
         self.cuts = [c for c in product(*(range(len(h) + 1) for h in log.history))
-                     if all(contained(log.clock(j, c[j]), c) for j in range(n))]
-        self.starts = [(0,) * n] + [e[1] for h in log.history for e in h]
-        self.empty = self.starts[0]
-        self.rounds = 0
+                     if all(contained(log.clock(j, k), c) for j, k in enumerate(c))]
 
     def true(self, f):
         """The cuts at which a formula is true."""
@@ -213,14 +226,7 @@ class Listing(Walk):
 
     def pair(self, left, right):
         first, second = (cache(lambda c, cuts=cuts: self.raised(cuts, c)) for cuts, _, _ in (left, right))
-        for c in self.starts:
-            while True:
-                self.rounds += 1
-                d = first(c)
-                d = d and second(d)
-                if d is None or d == c:
-                    break
-                c = d
+        self.rounds += sum(self.raised_in_both(first, second, c)[1] for c in self.starts)
         both = set(right[0])
         return self.kept([c for c in left[0] if c in both], left[1] + right[1])
 

@@ -8,8 +8,11 @@ import subprocess
 import sys
 import tempfile
 
+from corpus import LOGS
+from frames import parted
+
 LEAST = 10
-CORPUS, SOURCE = pathlib.Path("crates/corpus"), pathlib.Path("tests/compare/src")
+CASES, SOURCE = pathlib.Path("crates/cases"), pathlib.Path("tests/compare/src")
 PARTS = ["fault", "formula", "log", "basis", "operations"]  # each uses only those before it
 
 # A wrong rule, and the texts that it puts in place of others.
@@ -108,23 +111,29 @@ def build(folder):
     subprocess.run(["rustc", "--edition", "2021", "-C", "opt-level=1", "-A", "warnings", "main.rs"], cwd=folder, check=True)
 
 
-def answers(folder, i):
-    """What is printed for each log of the corpus by the implementation as it stands, 0, or by a wrong rule."""
-    with open(CORPUS / "stdin", "rb") as logs:
-        return subprocess.run([folder / "main", str(i)], stdin=logs, capture_output=True, check=True).stdout.split(b".\n")
+def corpus():
+    """The logs of the corpus, and what is to be printed for each."""
+    made = parted(*((CASES / name).read_bytes() for name in ("stdin", "stdout")))
+    return zip(*[(log, printed) for letter, log, printed in made if letter == "P"][:LOGS])
+
+
+def answers(folder, i, logs):
+    """What is printed for each log by the implementation as it stands, 0, or by a wrong rule."""
+    run = subprocess.run([folder / "main", str(i)], input=b".\n".join(logs), capture_output=True, check=True)
+    return tuple(run.stdout.split(b".\n")[:-1])
 
 
 def main():
-    expected = (CORPUS / "stdout").read_bytes().split(b".\n")
+    logs, expected = corpus()
     few = False
     with tempfile.TemporaryDirectory() as name:
         folder = pathlib.Path(name)
         build(folder)
-        if answers(folder, 0) != expected:
+        if answers(folder, 0, logs) != expected:
             sys.exit("the implementation as it stands does not print what is expected")
-        print(f"{'wrong rule':36} told apart by, of {len(expected) - 1} logs")
+        print(f"{'wrong rule':36} told apart by, of {len(expected)} logs")
         for i, rule in enumerate(RULES, 1):
-            told = sum(a != b for a, b in zip(answers(folder, i), expected, strict=True))
+            told = sum(a != b for a, b in zip(answers(folder, i, logs), expected, strict=True))
             few = few or told < LEAST
             print(f"{rule:36} {told}{', too few' if told < LEAST else ''}", flush=True)
     sys.exit(1 if few else 0)

@@ -10,11 +10,10 @@ import subprocess
 import sys
 import tempfile
 import time
-from math import prod
 
-from bases import LISTED, Rule
-from bench_cases import ALL, BENCH, HEAD, ONE, WIDE18, atom, chain, ladder
-from corpus import Draw, word
+from bases import Rule, few
+from bench_cases import ALL, BENCH, HEAD, HEADER, WIDE18, chain, ladder
+from frames import Draw, atom, log_of, word
 from listing import LOG, Refused, answer_line, atoms, contained, encode, printed, read, size, tokens
 
 PROGRAM = pathlib.Path(__file__).resolve().parent.parent / "target" / "bin" / "moments"
@@ -35,7 +34,7 @@ def expected(data):
         log = read(data)
     except Refused:
         return printed(data)
-    if prod(len(events) + 1 for events in log.history) <= LISTED:
+    if few(log):
         return printed(data)
     return b"".join(answer_line(*by_rule(log, f)) for f in log.questions)
 
@@ -77,7 +76,7 @@ def at_every_limit():
         s = i % 8
         last[s] = [max(pair) + (j == s) for j, pair in enumerate(zip(last[s], last[d.below(8)]))]
         frames.append([0x20, s] + word(d.below(4)) + last[s])
-    return b"".join(map(encode, frames + [[0x30] + question(d, [[2, 2], [2, 5], [5], [6, 2]][i % 4]) for i in range(16)]))
+    return log_of(frames + [[0x30] + question(d, [[2, 2], [2, 5], [5], [6, 2]][i % 4]) for i in range(16)])
 
 
 def files():
@@ -98,7 +97,7 @@ def files():
     yield "every limit, without the last 0A", full[:-1], refusal(2, 144)
     yield "empty", b"", refusal(4, 1)
     yield "0A alone", b"\n", refusal(2, 1)
-    yield "a header", ONE, b""
+    yield "a header", HEADER, b""
     yield "no question", HEAD, b""
     yield "bench", BENCH, b"400001010100000007B6\n"
     yield "bench, sixteen questions", ALL, None

@@ -1,21 +1,6 @@
-#!/usr/bin/env python3
-"""Makes the cases of Read and Write about document 01's limits and refusals, and what is to come of each.
-
-Usage: read_write.py FOLDER      writes FOLDER/stdin and FOLDER/stdout
-"""
-import pathlib
-import sys
-
+"""The cases of Read and Write about document 01's limits and refusals, and what is to come of each."""
+from frames import ONE, atom, case, log_of
 from listing import LIST, LOG, Log, Refused, admit, encode, read
-
-
-def word(v):
-    return [v // 256, v % 256]
-
-
-def atom(s=0, lo=0, hi=1):
-    return [1, s] + word(lo) + word(hi)
-
 
 HEADER = [0x10, 2, 0, 0, 0, 0]
 EVENT = [0x20, 0, 0, 5, 1, 0]
@@ -28,7 +13,6 @@ def chain(k):
     return [[0x20, 0, 0, i % 4, i + 1] for i in range(k)]
 
 
-ONE = [0x10, 1, 0, 0]
 EIGHT = [0x10, 8] + [0, 7] * 8
 
 
@@ -98,14 +82,14 @@ FRAMES = {
     "the longest": largest(),
 }
 
-GOOD = b"".join(map(encode, FRAMES["bench"]))
+GOOD = log_of(FRAMES["bench"])
 
 # Logs whose bytes are at fault.
 LOGS = [
     b"", b"\n", b"\n\n", GOOD[:-1], GOOD + b"\n", GOOD + b"0", GOOD.lower(), GOOD.replace(b"\n", b"\r\n", 1), GOOD + b"\0\n",
     GOOD.replace(b"EE\n", b"EF\n", 1), GOOD.replace(b"DA\n", b"DB\n", 1), b"60A1\n", b"10F0\n", b"1\n", b"10\n", b"1 F0\n", b"10F\n",
     b"0" * 200 + b"\n", b"0" * 202 + b"\n", b"0" * 201 + b"\n", b"0" * 8192, b"0" * 8193, b"G" * 8193, b"00\n" * 2730 + b"00",
-    b"".join(map(encode, [HEADER] + [[0x30] + atom()] * 16 + [[0x30]])), GOOD.replace(b"0A", b"0B"),
+    log_of([HEADER] + [[0x30] + atom()] * 16 + [[0x30]]), GOOD.replace(b"0A", b"0B"),
     encode(HEADER) + encode(HEADER)[:-3] + b"00\n", encode([0x60])[:-3] + b"00\n",
 ]
 
@@ -151,7 +135,7 @@ def outcome(letter, size, data):
             values, need = [len(log.initial), log.events(), len(log.questions), len(written)], LIST
         else:
             log = read_list(list(data))
-            written = b"".join(encode(f) for f in log.frames)
+            written = log_of(log.frames)
             values, need = [len(written)], LOG
         if size < need:
             raise Refused(12)
@@ -160,15 +144,11 @@ def outcome(letter, size, data):
     return f"{letter} {' '.join(map(str, values))} {written.hex()} kept\n"
 
 
-def main():
-    cases = [("R", 4096, b"".join(map(encode, fs))) for fs in FRAMES.values()]
-    cases += [("W", 8192, entries(fs)) for fs in FRAMES.values()]
-    cases += [("R", 4096, log) for log in LOGS] + [("W", 8192, l) for l in LISTS]
-    cases += [("R", size, GOOD) for size in (0, 4095, 4097)] + [("R", 0, GOOD[:-1])]
-    cases += [("W", size, entries(FRAMES["bench"])) for size in (0, 8191, 8200)] + [("W", 0, [0])]
-    folder = pathlib.Path(sys.argv[1])
-    (folder / "stdin").write_bytes(b"".join(c.encode() + bytes(word(size) + word(len(d))) + bytes(d) for c, size, d in cases))
-    (folder / "stdout").write_text("".join(outcome(*c) for c in cases))
-
-
-main()
+def cases():
+    made = [("R", LIST, log_of(fs)) for fs in FRAMES.values()]
+    made += [("W", LOG, entries(fs)) for fs in FRAMES.values()]
+    made += [("R", LIST, log) for log in LOGS] + [("W", LOG, l) for l in LISTS]
+    made += [("R", size, GOOD) for size in (0, LIST - 1, LIST + 1)] + [("R", 0, GOOD[:-1])]
+    made += [("W", size, entries(FRAMES["bench"])) for size in (0, LOG - 1, LOG + 8)] + [("W", 0, [0])]
+    for letter, size, data in made:
+        yield case(letter, data, size=size), outcome(letter, size, data).encode()

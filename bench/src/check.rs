@@ -8,7 +8,7 @@ use compare::operations::{printed, LINE};
 use std::fs::read;
 use std::panic::{catch_unwind, AssertUnwindSafe};
 
-const CORPUS: &str = "crates/corpus";
+const CASES: &str = "crates/cases";
 
 /// How many logs of the comparison there are, and the first one's seed.
 pub const LOGS: u64 = 4000;
@@ -36,21 +36,44 @@ fn all_equal(which: &str, log: &[u8], expected: &[u8]) -> Result<(), String> {
     }
 }
 
-/// The parts of a corpus file: each but the last log is closed by a line with a full stop.
-fn parts(file: &str) -> Result<Vec<Vec<u8>>, String> {
-    let path = format!("{CORPUS}/{file}");
-    let text = String::from_utf8(read(&path).map_err(|e| format!("{path}: {e}"))?).map_err(|e| format!("{path}: {e}"))?;
-    Ok(text.split(".\n").map(|p| p.as_bytes().to_vec()).collect())
+/// The letter and the log of each of the test program's cases; crates/trial says how they stand in its input.
+fn cases(input: &[u8]) -> Option<Vec<(u8, &[u8])>> {
+    let (mut cases, mut rest) = (Vec::new(), input);
+    while let Some((&[letter, _, cut, _, _, _, high, low], after)) = rest.split_first_chunk() {
+        let (log, next) = after.get(cut as usize..)?.split_at_checked(u16::from_be_bytes([high, low]) as usize)?;
+        cases.push((letter, log));
+        rest = next;
+    }
+    rest.is_empty().then_some(cases)
+}
+
+/// What is printed for each of the cases, without its first line, which begins with the letter.
+fn outputs(printed: &[u8]) -> Vec<Vec<u8>> {
+    let mut outputs: Vec<Vec<u8>> = Vec::new();
+    for line in printed.split_inclusive(|&b| b == 0x0A) {
+        match outputs.last_mut() {
+            Some(last) if !line[0].is_ascii_uppercase() => last.extend(line),
+            _ => outputs.push(Vec::new()),
+        }
+    }
+    outputs
+}
+
+fn file(name: &str) -> Result<Vec<u8>, String> {
+    let path = format!("{CASES}/{name}");
+    read(&path).map_err(|e| format!("{path}: {e}"))
 }
 
 /// How many logs there were, or the first on which a code differs.
 pub fn run(logs: u64, seed: u64) -> Result<u64, String> {
-    let (corpus, expected) = (parts("stdin")?, parts("stdout")?);
-    if corpus.len() + 1 != expected.len() {
-        return Err(format!("{CORPUS} has {} logs and {} outputs", corpus.len(), expected.len() - 1));
+    let (stdin, stdout) = (file("stdin")?, file("stdout")?);
+    let (cases, expected) = (cases(&stdin).unwrap_or_default(), outputs(&stdout));
+    if cases.is_empty() || cases.len() != expected.len() {
+        return Err(format!("{CASES} has {} cases and {} outputs", cases.len(), expected.len()));
     }
-    for (i, (log, expected)) in corpus.iter().zip(&expected).enumerate() {
-        all_equal(&format!("log {} of {CORPUS}", i + 1), log, expected)?;
+    let corpus: Vec<_> = cases.iter().zip(&expected).filter(|((letter, _), _)| *letter == b'P').collect();
+    for (i, ((_, log), expected)) in corpus.iter().enumerate() {
+        all_equal(&format!("case P number {} of {CASES}", i + 1), log, expected)?;
     }
     for seed in seed..seed + logs {
         let Case { log, .. } = Case::new(seed);

@@ -1,14 +1,76 @@
-// What the test programs share: lent slices with a known content, printing, and the logs of an input.
+// What the test program is made of: the cases of an input, slices lent with a known content, and printing.
 use model::Refusal;
 ghost use mathlib.Core.Path.{_≡_};
-ghost use mathlib.Core.Bool.{true, false};
-ghost use Prim.Native.Nat.{ℕ, _+_, _*_, _≤_, _<_};
+ghost use Prim.Native.Nat.{_+_, _<_, min};
 ghost use lib.ListN.{length, drop};
+ghost use Rattle.trial.specs.Case.{Within};
 ghost use Rattle.trial.specs.Lent.{lent};
-ghost use Rattle.trial.specs.Logs.{closing};
 
 // What lent slices hold before a call.
 pub const LENT: u8 = 165;
+
+// A case of an input. Its first eight bytes are a letter, the question number, the length of the cut, 1 if the workspace and 2 if the
+// bar space is to be one cell short, and in two bytes each the size of the output and the length of the log or list. The cut stands
+// behind them, from `cut` to `data`, and the log or list behind that, to `end`.
+pub struct Case {
+    pub letter: u8,
+    pub question: usize,
+    pub short: usize,
+    pub size: usize,
+    pub cut: usize,
+    pub data: usize,
+    pub end: usize,
+}
+
+fn wide(x: u8) -> usize
+    ensures { λ r. ⌜ (r ≡ x) × (r < 256) ⌝ }
+{
+    x as usize
+}
+
+// The byte at a place, or 0 past the end.
+fn byte(input: &[u8], at: usize) -> usize
+    ensures { λ r. ⌜ r < 256 ⌝ }
+{
+    if at < input.len() {
+        return wide(input[at]);
+    }
+    0
+}
+
+// The number of two bytes at a place, high byte first.
+fn word(input: &[u8], at: usize) -> usize
+    requires { ⌜ at < length (now input) + 8 ⌝ }
+    ensures { λ r. ⌜ r < 65536 ⌝ }
+{
+    256 * byte(input, at) + byte(input, at + 1)
+}
+
+// A place, or the end if it is past that.
+fn within(input: &[u8], at: usize) -> usize
+    ensures { λ r. ⌜ r ≡ min at (length (now (input .entry))) ⌝ }
+{
+    if at < input.len() { at } else { input.len() }
+}
+
+// The case at a place; the input's end is also its end.
+pub fn case_at(input: &[u8], at: usize) -> Case
+    requires { ⌜ at < length (now input) ⌝ }
+    ensures { λ r. ⌜ Within (length (now (input .entry))) at r ⌝ }
+{
+    let cut = within(input, at + 8);
+    let data = within(input, cut + byte(input, at + 2));
+    let end = within(input, data + word(input, at + 6));
+    Case {
+        letter: input[at],
+        question: byte(input, at + 1),
+        short: byte(input, at + 3),
+        size: word(input, at + 4),
+        cut: cut,
+        data: data,
+        end: end,
+    }
+}
 
 // Are the bytes from `from` on as lent?
 pub fn as_lent(s: &[u8], from: usize) -> bool
@@ -46,47 +108,33 @@ pub fn print_refusal(r: Refusal) {
     print_number(r.line);
 }
 
-// A number of two bytes, high byte first.
-pub fn word(high: u8, low: u8) -> usize
-    ensures { λ r. ⌜ r ≡ 256 * high + low ⌝ }
-{
-    high as usize * 256 + low as usize
+// A name and the numbers of some bytes, on a line.
+pub fn print_line(name: &[u8], bytes: &[u8]) {
+    io::write_all(1, name);
+    let mut i = 0;
+    while i < bytes.len() {
+        print_number(wide(bytes[i]));
+        i += 1;
+    }
+    io::write_all(1, b"\n");
 }
 
-// Does a line with only a full stop start at i, in the log that starts at `at`?
-fn closes(input: &[u8], at: usize, i: usize) -> bool
-    ensures { λ r. ⌜ r ≡ closing (now (input .entry)) at i ⌝ }
-{
-    if input.len() <= i {
-        return false;
+// The bytes in front as they are.
+pub fn print_front(out: &[u8], len: usize) {
+    if len <= out.len() {
+        io::write_all(1, &out[..len]);
     }
-    if input.len() - i < 2 {
-        return false;
-    }
-    if input[i] != b'.' {
-        return false;
-    }
-    if input[i + 1] != 0x0A {
-        return false;
-    }
-    if i <= at {
-        return true;
-    }
-    input[i - 1] == 0x0A
 }
 
-// Where the log that starts at `at` ends: at its closing line, or with the input.
-pub fn log_end(input: &[u8], at: usize) -> usize
-    requires { ⌜ at ≤ length (now input) ⌝ }
-    ensures { λ r. ⌜ (at ≤ r) × (r ≤ length (now (input .entry))) ⌝ }
-    ensures { λ r. ⌜ ((i : ℕ) → at ≤ i → i < r → closing (now (input .entry)) at i ≡ false) × (r < length (now (input .entry)) → closing (now (input .entry)) at r ≡ true) ⌝ }
-{
-    let mut i = at;
-    while i < input.len() {
-        if closes(input, at, i) {
-            return i;
+// The bytes in front as digits, and whether those past them are as lent.
+pub fn print_output(out: &[u8], len: usize) {
+    io::write_all(1, b" ");
+    let mut i = 0;
+    while i < out.len() {
+        if i < len {
+            io::print_hex(1, wide(out[i]) as u64, 2);
         }
         i += 1;
     }
-    i
+    print_kept(as_lent(out, len));
 }

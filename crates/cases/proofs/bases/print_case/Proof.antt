@@ -1,0 +1,79 @@
+-- `cases::bases::print_case`: a log that is accepted is as loading says. Assumes nothing.
+use native.Mathlib.Omega.{arith}
+use Rattle.load.proofs.Loads.{no-larger}
+use Rattle.finder.proofs.Logs.{to-accepts}
+use borrow.Author.Needs.{needs}
+use Rattle.cases.proofs.bases.print_case.Statement.{statement}
+use Rattle.cases.proofs.bases.print_case.Tie as tie
+
+slice-aggregate-write-all : tie.Need-slice-aggregate-write-all
+slice-aggregate-write-all c = search needs
+
+write-all-requires : tie.Need-write-all-requires
+write-all-requires c κs = search needs
+
+limits-requires : tie.Need-limits-requires
+limits-requires c κs = search needs
+
+slice-aggregate-load : tie.Need-slice-aggregate-load
+slice-aggregate-load c = search needs
+
+slice-aggregate-load-2 : tie.Need-slice-aggregate-load-2
+slice-aggregate-load-2 c = search needs
+
+load-requires : tie.Need-load-requires
+load-requires c κs = (no-larger _ (c .before .before .limits .ensures), search needs)
+
+enum-known-outcome : tie.Need-enum-known-outcome
+enum-known-outcome c = search needs
+
+print-refusal-requires : tie.Need-print-refusal-requires
+print-refusal-requires c κs = search needs
+
+slice-aggregate-write-all-2 : tie.Need-slice-aggregate-write-all-2
+slice-aggregate-write-all-2 c = search needs
+
+write-all-requires-2 : tie.Need-write-all-requires-2
+write-all-requires-2 c κs = search needs
+
+enum-told : tie.Need-enum-told
+enum-told c = search needs
+
+slice-aggregate-print-loaded : tie.Need-slice-aggregate-print-loaded
+slice-aggregate-print-loaded c = search needs
+
+slice-aggregate-print-loaded-2 : tie.Need-slice-aggregate-print-loaded-2
+slice-aggregate-print-loaded-2 c = search needs
+
+print-loaded-requires : tie.Need-print-loaded-requires
+print-loaded-requires c κs =
+    let l = c .before .before .before .before .before .before .load in
+    let a = to-accepts _ (c .before .before .before .before .before .before .before .before .before .limits .ensures) _ _ _ _ _ _ (l .ensures .0) (c .before .before .enum-told .given .1) in
+    ((omega (arith, a .short, l .kept), omega (arith, l .kept)), (_, a))
+
+returns : tie.Need-returns
+returns c = search needs
+
+returns-2 : tie.Need-returns-2
+returns-2 c = search needs
+
+pub print-case-spec : {M : Type 1} → statement M
+print-case-spec =
+    tie.close
+    (tie.spec
+    slice-aggregate-write-all
+    write-all-requires
+    limits-requires
+    slice-aggregate-load
+    slice-aggregate-load-2
+    load-requires
+    enum-known-outcome
+    print-refusal-requires
+    slice-aggregate-write-all-2
+    write-all-requires-2
+    enum-told
+    slice-aggregate-print-loaded
+    slice-aggregate-print-loaded-2
+    print-loaded-requires
+    returns
+    returns-2)

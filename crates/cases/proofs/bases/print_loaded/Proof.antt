@@ -1,0 +1,52 @@
+-- `cases::bases::print_loaded`: the log is laid out once, and all its questions are worked out over that. Assumes nothing.
+use Rattle.finder.proofs.Logs.{loaded, counts-total}
+use borrow.Author.Needs.{needs}
+use Rattle.cases.proofs.bases.print_loaded.Statement.{statement}
+use Rattle.cases.proofs.bases.print_loaded.Tie as tie
+
+slice-aggregate-lay : tie.Need-slice-aggregate-lay
+slice-aggregate-lay c = search needs
+
+slice-aggregate-lay-2 : tie.Need-slice-aggregate-lay-2
+slice-aggregate-lay-2 c = search needs
+
+lay-requires : tie.Need-lay-requires
+lay-requires c κs =
+    let p = c .before .before .before .before .before .before .pre in
+    let a = p .1 .1 in
+    ((a .some-stations, a .bounded .few-stations, p .0 .1, search needs, search needs), (a .bounded .eight, counts-total a, a .bounded .few-events))
+
+slice-aggregate-print-questions : tie.Need-slice-aggregate-print-questions
+slice-aggregate-print-questions c = search needs
+
+slice-aggregate-print-questions-2 : tie.Need-slice-aggregate-print-questions-2
+slice-aggregate-print-questions-2 c = search needs
+
+slice-aggregate-print-questions-3 : tie.Need-slice-aggregate-print-questions-3
+slice-aggregate-print-questions-3 c = search needs
+
+slice-aggregate-print-questions-4 : tie.Need-slice-aggregate-print-questions-4
+slice-aggregate-print-questions-4 c = search needs
+
+print-questions-requires : tie.Need-print-questions-requires
+print-questions-requires c κs =
+    let p = c .before .before .before .before .before .before .before .before .before .before .before .before .before .pre in
+    let a = p .1 .1 in
+    ((p .0 .0, search needs, search needs), record { log = _; table = _; accepts = a; laid = c .before .before .before .before .before .before .lay .ensures .2 _ (loaded a) })
+
+returns : tie.Need-returns
+returns c = search needs
+
+pub print-loaded-spec : {M : Type 1} → statement M
+print-loaded-spec =
+    tie.close
+    (tie.spec
+    slice-aggregate-lay
+    slice-aggregate-lay-2
+    lay-requires
+    slice-aggregate-print-questions
+    slice-aggregate-print-questions-2
+    slice-aggregate-print-questions-3
+    slice-aggregate-print-questions-4
+    print-questions-requires
+    returns)

@@ -1,0 +1,132 @@
+// The basis of each question of a log: for each structure its least cut, its greatest cut and its bars.
+use model::Log;
+use structure::Shape;
+ghost use mathlib.Core.Path.{_≡_};
+ghost use mathlib.Core.List.{List};
+ghost use Prim.Native.Nat.{ℕ, _+_, _*_, _≤_, _<_};
+ghost use lib.ListN.{length};
+ghost use Rattle.model.specs.Limits.{limits, storeSize, workspaceSize, barspaceSize};
+ghost use Rattle.model.specs.Formula.{Formula};
+ghost use Rattle.model.specs.Computation.{Computation};
+ghost use Rattle.load.specs.Loading.{Accepts};
+ghost use Rattle.verdict.specs.Questions.{Question, cellsHeld};
+ghost use Rattle.finder.specs.Prepared.{Prepared};
+
+// A name and a number, on a line.
+fn print_count(name: &[u8], count: u64) {
+    io::write_all(1, name);
+    io::write_all(1, b" ");
+    io::print_decimal(1, count);
+    io::write_all(1, b"\n");
+}
+
+// The bars at a place.
+fn print_bars(bs: &[u8], at: usize, n: usize)
+    requires { ⌜ (0 < n) × (n ≤ limits .stations) × (at + 16 * n ≤ length (now bs)) ⌝ }
+{
+    let mut i = 0;
+    while i < 16 {
+        let from = at + i * n;
+        if bs[from] == cells::NONE {
+            return;
+        }
+        trial::print_line(b"bar", &bs[from..from + n]);
+        i += 1;
+    }
+}
+
+// The structure at a place of the workspace, with its bars.
+fn print_structure(ws: &[u8], at: usize, bs: &[u8], bar: usize, n: usize, e: usize)
+    requires { ⌜ (0 < n) × (n ≤ limits .stations) × (e ≤ limits .events) × (at + (e + 1) * n ≤ length (now ws)) × (bar + 16 * n ≤ length (now bs)) ⌝ }
+{
+    trial::print_line(b"least", &ws[at..at + n]);
+    let mut greatest = [0u8; 8];
+    structure::greatest(ws, at, n, e, &mut greatest);
+    trial::print_line(b"greatest", &greatest[..n]);
+    print_bars(bs, bar, n);
+}
+
+// The structures at the front of the workspace.
+fn print_structures(ws: &[u8], bs: &[u8], count: usize, n: usize, e: usize)
+    requires { ⌜ (0 < n) × (n ≤ limits .stations) × (e ≤ limits .events) × (count ≤ 16) × (count * ((e + 1) * n) ≤ length (now ws)) × (count * (16 * n) ≤ length (now bs)) ⌝ }
+{
+    let size = (e + 1) * n;
+    let slot = 16 * n;
+    let mut i = 0;
+    while i < count {
+        print_structure(ws, i * size, bs, i * slot, n, e);
+        i += 1;
+    }
+}
+
+// The basis of one question, and its rounds.
+fn print_basis(q: &[u8], x: Shape, starts: &[u8], facts: &[u16], ws: &mut [u8], bs: &mut [u8])
+    requires { ⌜ ((K : Computation) × (f : Formula) × Question K f (now q) x (now starts) (now facts) × (cellsHeld f x ≤ length (now ws))) ⌝ }
+    requires { ⌜ barspaceSize ≤ length (now bs) ⌝ }
+{
+    let n = x.n;
+    let e = x.e;
+    let basis = basis::basis_true(q, ws, bs, x, starts, facts);
+    let count = basis.count;
+    print_count(b"structures", count as u64);
+    print_structures(ws, bs, count, n, e);
+    print_count(b"rounds", basis.rounds as u64);
+}
+
+// The bases of all questions of a log that is laid out.
+fn print_questions(
+    list: &[u8],
+    loaded: load::Loaded,
+    x: Shape,
+    starts: &[u8],
+    facts: &[u16],
+    ws: &mut [u8],
+    bs: &mut [u8],
+)
+    requires { ⌜ (loaded .length ≤ length (now list)) × (workspaceSize ≤ length (now ws)) × (barspaceSize ≤ length (now bs)) ⌝ }
+    requires { ⌜ Prepared (loaded .state) (loaded .length) (now list) x (now starts) (now facts) ⌝ }
+{
+    let s = loaded.state;
+    let k = loaded.length;
+    let mut i = 0;
+    while i < s.questions {
+        let q = verdict::frames::question_at(list, k, s.first_question() + i);
+        print_basis(q, x, starts, facts, ws, bs);
+        i += 1;
+    }
+}
+
+// The same for a log that is loaded.
+fn print_loaded(list: &[u8], store: &[u8], loaded: load::Loaded)
+    requires { ⌜ (loaded .length ≤ length (now list)) × (length (now store) ≡ storeSize) ⌝ }
+    requires { ⌜ ((log : List ℕ) × Accepts limits log (loaded .state) (loaded .length) (now list) (now store)) ⌝ }
+{
+    let s = loaded.state;
+    let n = s.stations;
+    let e = s.events;
+    let counts = s.counts;
+    let mut starts = [0u8; Log::STARTS];
+    let mut facts = [0u16; Log::FACTS];
+    let x = layout::lay(store, n, e, counts, &mut starts, &mut facts);
+    let mut ws = [0u8; Log::WORKSPACE];
+    let mut bs = [0u8; Log::BARSPACE];
+    print_questions(list, loaded, x, &starts, &facts, &mut ws, &mut bs);
+}
+
+// The bases of a log, or its refusal.
+pub(crate) fn print_case(log: &[u8]) {
+    io::write_all(1, b"B\n");
+    let mut list = [0u8; Log::LIST];
+    let mut store = [0u8; Log::STORE];
+    let loaded = load::load(Log::limits(), log, &mut list, &mut store);
+    let outcome = loaded.outcome;
+    match outcome {
+        load::Acceptance::Refused(refusal) => {
+            trial::print_refusal(refusal);
+            io::write_all(1, b"\n");
+        }
+        load::Acceptance::Accepted => {
+            print_loaded(&list, &store, loaded);
+        }
+    }
+}

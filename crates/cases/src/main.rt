@@ -1,0 +1,166 @@
+// Runs the operations and the program on the cases of standard input, and prints what each hands back and leaves in what was lent to it.
+// A case's letter says what is run: R for Read, W for Write, A for Answer, H for Holds, P for the program, and any other the bases.
+mod bases;
+
+use model::HoldsAnswer;
+use model::LineAnswer;
+use model::Log;
+use model::ReadAnswer;
+use model::WriteAnswer;
+use trial::Case;
+
+// The most that a case may lend as output.
+const OUTPUT: usize = Log::BYTES + 8;
+
+// The most that is read.
+const INPUT: usize = 0x0020_0000;
+
+// Reads the log of a case.
+fn read_case(log: &[u8], out: &mut [u8]) {
+    io::write_all(1, b"R");
+    match log::read(log, out) {
+        ReadAnswer::Accepted(l) => {
+            trial::print_number(l.stations);
+            trial::print_number(l.events);
+            trial::print_number(l.questions);
+            trial::print_number(l.list);
+            trial::print_output(out, l.list);
+        }
+        ReadAnswer::Refused(r) => {
+            trial::print_refusal(r);
+            trial::print_output(out, 0);
+        }
+    }
+}
+
+// Writes the frame list of a case.
+fn write_case(list: &[u8], out: &mut [u8]) {
+    io::write_all(1, b"W");
+    match log::write(list, out) {
+        WriteAnswer::Written(n) => {
+            trial::print_number(n);
+            trial::print_output(out, n);
+        }
+        WriteAnswer::Refused(r) => {
+            trial::print_refusal(r);
+            trial::print_output(out, 0);
+        }
+    }
+}
+
+// Answers a question of the log.
+fn answer_case(log: &[u8], question: usize, ws: &mut [u8], bs: &mut [u8], out: &mut [u8]) {
+    io::write_all(1, b"A");
+    match finder::answer(log, question, ws, bs, out) {
+        LineAnswer::Written(n) => {
+            trial::print_kept(trial::as_lent(out, n));
+            trial::print_front(out, n);
+        }
+        LineAnswer::Refused(r) => {
+            trial::print_refusal(r);
+            trial::print_kept(
+                trial::as_lent(ws, 0) && trial::as_lent(bs, 0) && trial::as_lent(out, 0),
+            );
+        }
+    }
+}
+
+// Tests a question at a cut.
+fn holds_case(log: &[u8], question: usize, cut: &[u8], ws: &mut [u8], bs: &mut [u8]) {
+    io::write_all(1, b"H");
+    match finder::holds(log, question, cut, ws, bs) {
+        HoldsAnswer::Yes => {
+            io::write_all(1, b" yes\n");
+        }
+        HoldsAnswer::No => {
+            io::write_all(1, b" no\n");
+        }
+        HoldsAnswer::Refused(r) => {
+            trial::print_refusal(r);
+            trial::print_kept(trial::as_lent(ws, 0) && trial::as_lent(bs, 0));
+        }
+    }
+}
+
+// Runs the program on the log.
+fn print_case(log: &[u8]) {
+    io::write_all(1, b"P\n");
+    let mut out = [0u8; finder::PRINTED];
+    let m = finder::print_log(log, &mut out);
+    io::write_all(1, &out[..m]);
+}
+
+// Runs a case in what is lent to it.
+fn run_case(c: Case, cut: &[u8], data: &[u8], ws: &mut [u8], bs: &mut [u8], out: &mut [u8]) {
+    let letter = c.letter;
+    if letter == b'R' {
+        read_case(data, out);
+    } else if letter == b'W' {
+        write_case(data, out);
+    } else if letter == b'A' {
+        answer_case(data, c.question, ws, bs, out);
+    } else if letter == b'H' {
+        holds_case(data, c.question, cut, ws, bs);
+    } else if letter == b'P' {
+        print_case(data);
+    } else {
+        bases::print_case(data);
+    }
+}
+
+// The spaces and the input's room are made here, so that no other proof has to look at their cells.
+fn lent_workspace() -> [u8; Log::WORKSPACE] {
+    [trial::LENT; Log::WORKSPACE]
+}
+
+fn lent_bars() -> [u8; Log::BARSPACE] {
+    [trial::LENT; Log::BARSPACE]
+}
+
+fn lent_output() -> [u8; OUTPUT] {
+    [trial::LENT; OUTPUT]
+}
+
+fn blank() -> [u8; INPUT] {
+    [0u8; INPUT]
+}
+
+// Lends a case spaces of the sizes that it names.
+fn lend(c: Case, cut: &[u8], data: &[u8]) {
+    let size = c.size;
+    if OUTPUT < size {
+        return;
+    }
+    let mut ws = lent_workspace();
+    let mut bs = lent_bars();
+    let mut out = lent_output();
+    let cells = Log::WORKSPACE - c.short % 2;
+    let bars = Log::BARSPACE - c.short / 2 % 2;
+    run_case(
+        c,
+        cut,
+        data,
+        &mut ws[..cells],
+        &mut bs[..bars],
+        &mut out[..size],
+    );
+}
+
+// Runs the cases of the input one after the other.
+fn run_cases(input: &[u8]) {
+    let mut at = 0;
+    while at < input.len() {
+        let c = trial::case_at(input, at);
+        let cut = c.cut;
+        let data = c.data;
+        let end = c.end;
+        lend(c, &input[cut..data], &input[data..end]);
+        at = end;
+    }
+}
+
+fn main() {
+    let mut room = blank();
+    let n = io::read_full(0, &mut room);
+    run_cases(&room[..n]);
+}

@@ -1,0 +1,26 @@
+#!/usr/bin/env python3
+"""Makes the cases of the program crates/cases, and what it is to print for each.
+
+Usage: cases.py FOLDER [SEED]      writes FOLDER/stdin and FOLDER/stdout; the same arguments give the same bytes
+The corpus comes first.
+"""
+import pathlib
+import sys
+
+import bases
+import bench_cases
+import corpus
+import read_write
+
+SEED = 20261115
+
+
+def main():
+    folder = pathlib.Path(sys.argv[1])
+    seed = int(sys.argv[2]) if len(sys.argv) > 2 else SEED
+    made = [*corpus.cases(seed), *bench_cases.cases(), *bases.cases(seed), *read_write.cases()]
+    (folder / "stdin").write_bytes(b"".join(case for case, _ in made))
+    (folder / "stdout").write_bytes(b"".join(printed for _, printed in made))
+
+
+main()

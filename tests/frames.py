@@ -1,0 +1,81 @@
+"""What the tests' logs and cases are made of: bytes of formulas and frames, given or drawn, and the form of a case of crates/cases."""
+import re
+
+from listing import encode
+
+ONE = [0x10, 1, 0, 0]
+
+
+def word(v):
+    return [v // 256, v % 256]
+
+
+def atom(s=0, lo=0, hi=1):
+    return [1, s] + word(lo) + word(hi)
+
+
+def log_of(frames):
+    return b"".join(map(encode, frames))
+
+
+# CASES
+
+def case(letter, data, question=0, cut=(), short=0, size=0):
+    """A case's bytes, as crates/trial reads them."""
+    return letter.encode() + bytes([question, len(cut), short] + word(size) + word(len(data)) + list(cut)) + bytes(data)
+
+
+def parted(stdin, stdout):
+    """The letter of each case, its log or list, and the lines printed behind the one with its letter."""
+    at = 0
+    for out in re.split(rb"^(?=[A-Z])", stdout, flags=re.M)[1:]:
+        start = at + 8 + stdin[at + 2]
+        end = start + stdin[at + 6] * 256 + stdin[at + 7]
+        yield chr(stdin[at]), stdin[start:end], out.partition(b"\n")[2]
+        at = end
+
+
+# DRAWN
+
+class Draw:
+    """Numbers from a seed, by a linear congruential rule of 64 bits."""
+
+    def __init__(self, seed):
+        self.state = seed
+
+    def below(self, n):
+        self.state = (self.state * 6364136223846793005 + 1442695040888963407) % 2**64
+        return (self.state >> 33) % n
+
+    def pick(self, items):
+        return items[self.below(len(items))]
+
+
+def drawn_atom(d, n, top):
+    lo = d.below(top)
+    return [1, d.below(n)] + word(lo) + word(lo + d.below(top - lo))
+
+
+def formula(d, n, depth, top=4):
+    """A formula's bytes, nested at most depth deep."""
+    t = d.pick([1, 1, 2, 3, 3, 4, 4, 5, 6]) if depth > 1 else 1
+    if t == 1:
+        return drawn_atom(d, n, top)
+    return [t] + [b for _ in range(2 if t in (3, 4) else 1) for b in formula(d, n, depth - 1, top)]
+
+
+def computation(d, n, events, values, messages):
+    """Header and events of n stations with so many values, one event in so many with a message; and the values seen at each station."""
+    seen = [[d.below(values)] for _ in range(n)]
+    frames = [[0x10, n] + [b for vs in seen for b in word(vs[0])]]
+    last = [[0] * n for _ in range(n)]
+    for _ in range(events):
+        s = d.below(n)
+        clock = list(last[s])
+        if d.below(messages) == 0:
+            clock = list(map(max, clock, last[d.below(n)]))
+        clock[s] = last[s][s] + 1
+        last[s] = clock
+        seen[s].append(d.below(values))
+        frames.append([0x20, s] + word(seen[s][-1]) + clock)
+    return frames, seen
