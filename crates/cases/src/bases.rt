@@ -12,14 +12,6 @@ ghost use Rattle.load.specs.Loading.{Accepts};
 ghost use Rattle.verdict.specs.Questions.{Question, cellsHeld};
 ghost use Rattle.finder.specs.Prepared.{Prepared};
 
-// A name and a number, on a line.
-fn print_count(name: &[u8], count: u64) {
-    io::write_all(1, name);
-    io::write_all(1, b" ");
-    io::print_decimal(1, count);
-    io::write_all(1, b"\n");
-}
-
 // The bars at a place.
 fn print_bars(bs: &[u8], at: usize, n: usize)
     requires { ⌜ (0 < n) × (n ≤ limits .stations) × (at + 16 * n ≤ length (now bs)) ⌝ }
@@ -68,9 +60,9 @@ fn print_basis(q: &[u8], x: Shape, starts: &[u8], facts: &[u16], ws: &mut [u8], 
     let e = x.e;
     let basis = basis::basis_true(q, ws, bs, x, starts, facts);
     let count = basis.count;
-    print_count(b"structures", count as u64);
+    trial::print_count(b"structures", count);
     print_structures(ws, bs, count, n, e);
-    print_count(b"rounds", basis.rounds as u64);
+    trial::print_count(b"rounds", basis.rounds as usize);
 }
 
 // The bases of all questions of a log that is laid out.
@@ -115,7 +107,7 @@ fn print_loaded(list: &[u8], store: &[u8], loaded: load::Loaded)
 
 // The bases of a log, or its refusal.
 pub(crate) fn print_case(log: &[u8]) {
-    io::write_all(1, b"B\n");
+    io::write_all(1, b"\n");
     let mut list = [0u8; Log::LIST];
     let mut store = [0u8; Log::STORE];
     let loaded = load::load(Log::limits(), log, &mut list, &mut store);

@@ -17,74 +17,47 @@ const INPUT: usize = 0x0020_0000;
 
 // Reads the log of a case.
 fn read_case(log: &[u8], out: &mut [u8]) {
-    io::write_all(1, b"R");
     match log::read(log, out) {
-        ReadAnswer::Accepted(l) => {
-            trial::print_number(l.stations);
-            trial::print_number(l.events);
-            trial::print_number(l.questions);
-            trial::print_number(l.list);
-            trial::print_output(out, l.list);
-        }
-        ReadAnswer::Refused(r) => {
-            trial::print_refusal(r);
-            trial::print_output(out, 0);
-        }
+        ReadAnswer::Accepted(l) => trial::print_read(l, out),
+        ReadAnswer::Refused(r) => trial::print_unwritten(r, out),
     }
 }
 
 // Writes the frame list of a case.
 fn write_case(list: &[u8], out: &mut [u8]) {
-    io::write_all(1, b"W");
     match log::write(list, out) {
-        WriteAnswer::Written(n) => {
-            trial::print_number(n);
-            trial::print_output(out, n);
-        }
-        WriteAnswer::Refused(r) => {
-            trial::print_refusal(r);
-            trial::print_output(out, 0);
-        }
+        WriteAnswer::Written(n) => trial::print_written(n, out),
+        WriteAnswer::Refused(r) => trial::print_unwritten(r, out),
     }
 }
 
 // Answers a question of the log.
 fn answer_case(log: &[u8], question: usize, ws: &mut [u8], bs: &mut [u8], out: &mut [u8]) {
-    io::write_all(1, b"A");
     match finder::answer(log, question, ws, bs, out) {
-        LineAnswer::Written(n) => {
-            trial::print_kept(trial::as_lent(out, n));
-            trial::print_front(out, n);
-        }
-        LineAnswer::Refused(r) => {
-            trial::print_refusal(r);
-            trial::print_kept(
-                trial::as_lent(ws, 0) && trial::as_lent(bs, 0) && trial::as_lent(out, 0),
-            );
-        }
+        LineAnswer::Written(n) => trial::print_answer(n, out),
+        LineAnswer::Refused(r) => trial::print_unanswered(r, ws, bs, out),
     }
 }
 
 // Tests a question at a cut.
-fn holds_case(log: &[u8], question: usize, cut: &[u8], ws: &mut [u8], bs: &mut [u8]) {
-    io::write_all(1, b"H");
+fn holds_case(
+    log: &[u8],
+    question: usize,
+    cut: &[u8],
+    ws: &mut [u8],
+    bs: &mut [u8],
+    out: &mut [u8],
+) {
     match finder::holds(log, question, cut, ws, bs) {
-        HoldsAnswer::Yes => {
-            io::write_all(1, b" yes\n");
-        }
-        HoldsAnswer::No => {
-            io::write_all(1, b" no\n");
-        }
-        HoldsAnswer::Refused(r) => {
-            trial::print_refusal(r);
-            trial::print_kept(trial::as_lent(ws, 0) && trial::as_lent(bs, 0));
-        }
+        HoldsAnswer::Yes => trial::print_truth(true),
+        HoldsAnswer::No => trial::print_truth(false),
+        HoldsAnswer::Refused(r) => trial::print_unanswered(r, ws, bs, out),
     }
 }
 
 // Runs the program on the log.
 fn print_case(log: &[u8]) {
-    io::write_all(1, b"P\n");
+    io::write_all(1, b"\n");
     let mut out = [0u8; finder::PRINTED];
     let m = finder::print_log(log, &mut out);
     io::write_all(1, &out[..m]);
@@ -93,6 +66,7 @@ fn print_case(log: &[u8]) {
 // Runs a case in what is lent to it.
 fn run_case(c: Case, cut: &[u8], data: &[u8], ws: &mut [u8], bs: &mut [u8], out: &mut [u8]) {
     let letter = c.letter;
+    trial::print_letter(letter);
     if letter == b'R' {
         read_case(data, out);
     } else if letter == b'W' {
@@ -100,7 +74,7 @@ fn run_case(c: Case, cut: &[u8], data: &[u8], ws: &mut [u8], bs: &mut [u8], out:
     } else if letter == b'A' {
         answer_case(data, c.question, ws, bs, out);
     } else if letter == b'H' {
-        holds_case(data, c.question, cut, ws, bs);
+        holds_case(data, c.question, cut, ws, bs, out);
     } else if letter == b'P' {
         print_case(data);
     } else {

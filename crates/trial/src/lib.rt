@@ -1,4 +1,5 @@
 // What the test program is made of: the cases of an input, slices lent with a known content, and printing.
+use model::Log;
 use model::Refusal;
 ghost use mathlib.Core.Path.{_≡_};
 ghost use Prim.Native.Nat.{_+_, _<_, min};
@@ -86,13 +87,11 @@ pub fn as_lent(s: &[u8], from: usize) -> bool
     true
 }
 
-// Whether what was not to be written is as lent.
-pub fn print_kept(kept: bool) {
-    if kept {
-        io::write_all(1, b" kept\n");
-    } else {
-        io::write_all(1, b" touched\n");
-    }
+// PRINTING
+
+pub fn print_letter(letter: u8) {
+    let text = [letter];
+    io::write_all(1, &text);
 }
 
 pub fn print_number(n: usize) {
@@ -100,12 +99,11 @@ pub fn print_number(n: usize) {
     io::print_decimal(1, n as u64);
 }
 
-// A refusal's number and line.
-pub fn print_refusal(r: Refusal) {
-    let f = r.fault;
-    io::write_all(1, b" refused");
-    print_number(f.number() as usize);
-    print_number(r.line);
+// A name and a number, on a line.
+pub fn print_count(name: &[u8], n: usize) {
+    io::write_all(1, name);
+    print_number(n);
+    io::write_all(1, b"\n");
 }
 
 // A name and the numbers of some bytes, on a line.
@@ -119,15 +117,17 @@ pub fn print_line(name: &[u8], bytes: &[u8]) {
     io::write_all(1, b"\n");
 }
 
-// The bytes in front as they are.
-pub fn print_front(out: &[u8], len: usize) {
-    if len <= out.len() {
-        io::write_all(1, &out[..len]);
+// Whether what was not to be written is as lent.
+fn print_kept(kept: bool) {
+    if kept {
+        io::write_all(1, b" kept\n");
+    } else {
+        io::write_all(1, b" touched\n");
     }
 }
 
 // The bytes in front as digits, and whether those past them are as lent.
-pub fn print_output(out: &[u8], len: usize) {
+fn print_output(out: &[u8], len: usize) {
     io::write_all(1, b" ");
     let mut i = 0;
     while i < out.len() {
@@ -137,4 +137,56 @@ pub fn print_output(out: &[u8], len: usize) {
         i += 1;
     }
     print_kept(as_lent(out, len));
+}
+
+// A refusal's number and line.
+pub fn print_refusal(r: Refusal) {
+    let f = r.fault;
+    io::write_all(1, b" refused");
+    print_number(f.number() as usize);
+    print_number(r.line);
+}
+
+// What Read accepted, and the list that it wrote.
+pub fn print_read(l: Log, out: &[u8]) {
+    print_number(l.stations);
+    print_number(l.events);
+    print_number(l.questions);
+    print_number(l.list);
+    print_output(out, l.list);
+}
+
+// How many bytes Write wrote, and these.
+pub fn print_written(len: usize, out: &[u8]) {
+    print_number(len);
+    print_output(out, len);
+}
+
+// The refusal of Read or Write.
+pub fn print_unwritten(r: Refusal, out: &[u8]) {
+    print_refusal(r);
+    print_output(out, 0);
+}
+
+// The line that Answer wrote, as it is.
+pub fn print_answer(len: usize, out: &[u8]) {
+    print_kept(as_lent(out, len));
+    if len <= out.len() {
+        io::write_all(1, &out[0..len]);
+    }
+}
+
+// What Holds says.
+pub fn print_truth(holds: bool) {
+    if holds {
+        io::write_all(1, b" yes\n");
+    } else {
+        io::write_all(1, b" no\n");
+    }
+}
+
+// The refusal of Answer or Holds.
+pub fn print_unanswered(r: Refusal, ws: &[u8], bs: &[u8], out: &[u8]) {
+    print_refusal(r);
+    print_kept(as_lent(ws, 0) && as_lent(bs, 0) && as_lent(out, 0));
 }
