@@ -35,13 +35,6 @@ enum Front {
     Formula(Size),
 }
 
-// A number of two bytes.
-fn word(h: u8, l: u8) -> usize
-    ensures { λ r. ⌜ r ≡ 256 * h + l ⌝ }
-{
-    256 * (h as usize) + (l as usize)
-}
-
 // Whether both hold.
 fn and(a: bool, b: bool) -> bool
     ensures { λ r. ⌜ r ≡ (a && b) ⌝ }
@@ -85,8 +78,8 @@ fn range(rest: &[u8], n: usize) -> Front
         return Front::Nothing;
     }
     let s = rest[0] as usize;
-    let lo = word(rest[1], rest[2]);
-    let hi = word(rest[3], rest[4]);
+    let lo = cells::word(rest, 1);
+    let hi = cells::word(rest, 3);
     Front::Formula(Size {
         used: 6,
         tokens: 1,

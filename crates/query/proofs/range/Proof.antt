@@ -3,11 +3,10 @@ use mathlib.Core.Path.{_≡_, refl}
 use mathlib.Core.Bool.{Bool, _&&_}
 use mathlib.Core.List.{List}
 use mathlib.Core.Option.{some}
-use Prim.Native.Nat.{ℕ, _+_, _*_}
+use Prim.Native.Nat.{ℕ}
 use native.Mathlib.Omega.{arith}
 use lib.Dec.{leb, ltb}
-use lib.ListN.{getD}
-use lib.Seq.{getD-drop}
+use lib.ListN.{getD, drop}
 use Rattle.model.specs.Frames.{word}
 use Rattle.model.specs.Atom.{operands, atomOf, soundAtom}
 use borrow.Author.Needs.{needs}
@@ -21,12 +20,12 @@ unfolding operands
 five = refl
 
 sound-is : (n : ℕ) (q : List ℕ) {lo hi : ℕ} {b : Bool}
-    → lo ≡ 256 * getD q 1 0 + getD q 2 0
-    → hi ≡ 256 * getD q 3 0 + getD q 4 0
+    → lo ≡ word (drop 1 q)
+    → hi ≡ word (drop 3 q)
     → b ≡ (ltb (getD q 0 0) n && leb lo hi)
     → b ≡ soundAtom n (atomOf 1 q)
-unfolding soundAtom atomOf word
-sound-is n q l u e = rw (e, l, u) (simp getD-drop)
+unfolding soundAtom atomOf
+sound-is n q l u e = rw (e, l, u)
 
 returns : tie.Need-returns
 returns c = λ s. nothing-atom 1 5 (c .before .before .args .rest .now) five (c .if1 .taken)
@@ -37,20 +36,8 @@ shared-slice-read-s c = search needs
 cast-s : tie.Need-cast-s
 cast-s c = omega (arith, c .shared-slice-known2 .given 0)
 
-shared-slice-read-word : tie.Need-shared-slice-read-word
-shared-slice-read-word c = search needs
-
-shared-slice-read-word-2 : tie.Need-shared-slice-read-word-2
-shared-slice-read-word-2 c = search needs
-
 word-requires : tie.Need-word-requires
 word-requires c κs = search needs
-
-shared-slice-read-word-3 : tie.Need-shared-slice-read-word-3
-shared-slice-read-word-3 c = search needs
-
-shared-slice-read-word-4 : tie.Need-shared-slice-read-word-4
-shared-slice-read-word-4 c = search needs
 
 word-requires-2 : tie.Need-word-requires-2
 word-requires-2 c κs = search needs
@@ -60,8 +47,8 @@ and-requires c κs = search needs
 
 returns-2 : tie.Need-returns-2
 returns-2 c =
-    let a = c .before .before .before .before .before .before .before .before .before .before .args in
-    λ s. sized-atom 1 5 (a .rest .now) five (a .n) s (c .before .before .before .before .before .before .before .before .if1 .left) (sound-is (a .n) (a .rest .now) (c .before .before .before .before .word .ensures) (c .before .word2 .ensures) (c .and .ensures))
+    let a = c .before .before .before .before .before .before .args in
+    λ s. sized-atom 1 5 (a .rest .now) five (a .n) s (c .before .before .before .before .if1 .left) (sound-is (a .n) (a .rest .now) (c .before .before .word .ensures) (c .before .word2 .ensures) (c .and .ensures))
 
 pub range-spec : {M : Type 1} → statement M
 range-spec =
@@ -70,11 +57,7 @@ range-spec =
     returns
     shared-slice-read-s
     cast-s
-    shared-slice-read-word
-    shared-slice-read-word-2
     word-requires
-    shared-slice-read-word-3
-    shared-slice-read-word-4
     word-requires-2
     and-requires
     returns-2)
