@@ -123,7 +123,7 @@ fn lend(c: Case, cut: &[u8], data: &[u8]) {
 // Runs the cases of the input one after the other.
 fn run_cases(input: &[u8]) {
     let mut at = 0;
-    while at < input.len() {
+    while trial::HEAD <= input.len() - at {
         let c = trial::case_at(input, at);
         let cut = c.cut;
         let data = c.data;

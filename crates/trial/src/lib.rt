@@ -1,11 +1,16 @@
 // What the test program is made of: the cases of an input, slices lent with a known content, and printing.
+use cells::wide;
+use cells::word;
 use model::Log;
 use model::Refusal;
 ghost use mathlib.Core.Path.{_≡_};
-ghost use Prim.Native.Nat.{_+_, _<_, min};
+ghost use Prim.Native.Nat.{_+_, _≤_, min};
 ghost use lib.ListN.{length, drop};
 ghost use Rattle.trial.specs.Case.{Within};
 ghost use Rattle.trial.specs.Lent.{lent};
+
+// The bytes in front of a case.
+pub const HEAD: usize = 8;
 
 // What lent slices hold before a call.
 pub const LENT: u8 = 165;
@@ -23,30 +28,6 @@ pub struct Case {
     pub end: usize,
 }
 
-fn wide(x: u8) -> usize
-    ensures { λ r. ⌜ (r ≡ x) × (r < 256) ⌝ }
-{
-    x as usize
-}
-
-// The byte at a place, or 0 past the end.
-fn byte(input: &[u8], at: usize) -> usize
-    ensures { λ r. ⌜ r < 256 ⌝ }
-{
-    if at < input.len() {
-        return wide(input[at]);
-    }
-    0
-}
-
-// The number of two bytes at a place, high byte first.
-fn word(input: &[u8], at: usize) -> usize
-    requires { ⌜ at < length (now input) + 8 ⌝ }
-    ensures { λ r. ⌜ r < 65536 ⌝ }
-{
-    256 * byte(input, at) + byte(input, at + 1)
-}
-
 // A place, or the end if it is past that.
 fn within(input: &[u8], at: usize) -> usize
     ensures { λ r. ⌜ r ≡ min at (length (now (input .entry))) ⌝ }
@@ -56,17 +37,17 @@ fn within(input: &[u8], at: usize) -> usize
 
 // The case at a place; the input's end is also its end.
 pub fn case_at(input: &[u8], at: usize) -> Case
-    requires { ⌜ at < length (now input) ⌝ }
+    requires { ⌜ at + 8 ≤ length (now input) ⌝ }
     ensures { λ r. ⌜ Within (length (now (input .entry))) at r ⌝ }
 {
-    let cut = within(input, at + 8);
-    let data = within(input, cut + byte(input, at + 2));
-    let end = within(input, data + word(input, at + 6));
+    let cut = at + HEAD;
+    let data = within(input, cut + wide(input[at + 2]));
+    let end = within(input, data + word(input, at + 6) as usize);
     Case {
         letter: input[at],
-        question: byte(input, at + 1),
-        short: byte(input, at + 3),
-        size: word(input, at + 4),
+        question: wide(input[at + 1]),
+        short: wide(input[at + 3]),
+        size: word(input, at + 4) as usize,
         cut: cut,
         data: data,
         end: end,
@@ -74,7 +55,7 @@ pub fn case_at(input: &[u8], at: usize) -> Case
 }
 
 // Are the bytes from `from` on as lent?
-pub fn as_lent(s: &[u8], from: usize) -> bool
+fn as_lent(s: &[u8], from: usize) -> bool
     ensures { λ r. ⌜ r ≡ lent (drop from (now (s .entry))) ⌝ }
 {
     let mut i = from;
@@ -94,7 +75,7 @@ pub fn print_letter(letter: u8) {
     io::write_all(1, &text);
 }
 
-pub fn print_number(n: usize) {
+fn print_number(n: usize) {
     io::write_all(1, b" ");
     io::print_decimal(1, n as u64);
 }

@@ -14,6 +14,9 @@ abbrev μ-loop : tie.MeasureT-loop
 loop-holds : tie.Need-loop-holds Inv-loop μ-loop
 loop-holds c = search needs
 
+sub-loop : tie.Need-sub-loop Inv-loop μ-loop
+sub-loop c = search needs
+
 case-at-requires : tie.Need-case-at-requires Inv-loop μ-loop
 case-at-requires c κs = search needs
 
@@ -54,6 +57,7 @@ run-cases-spec =
     Inv-loop
     μ-loop
     loop-holds
+    sub-loop
     case-at-requires
     sub-lend
     part-lend-start
