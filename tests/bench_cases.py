@@ -1,5 +1,5 @@
 """The cases of document 01's bench section and limits for Answer, Holds and the program, and what is to come of each."""
-from frames import ONE, atom, case, log_of, word
+from frames import ONE, atom, case, in_turn, log_of
 from listing import Listing, Refused, answer_line, encode, printed, read
 
 Q = [3] + atom(0, 5, 5) + atom(1, 1, 1)
@@ -30,20 +30,14 @@ HEADER = encode(ONE)
 
 def chain(k):
     """One station with k events, and a question that holds after every third."""
-    return log_of([ONE] + [[0x20, 0, 0, i % 3, i + 1] for i in range(k)] + [[0x30] + atom(0, 2, 2)])
+    return log_of([ONE] + in_turn(1, k, lambda i: i % 3) + [[0x30] + atom(0, 2, 2)])
 
 
 def ladder(stations, k):
     """Stations that send on in turn, with a question of width 16 and one with bars."""
-    last, frames = [0] * stations, [[0x10, stations] + [0, 0] * stations]
-    for i in range(k):
-        s = i % stations
-        last = list(last)
-        last[s] += 1
-        frames.append([0x20, s] + word(i % 4) + last)
     ways = [[4] + atom(j % stations, j % 4, j % 4) + atom((j + 1) % stations, 1, 2) for j in range(4)]
-    frames.append([0x30] + [3] * 3 + [b for w in ways for b in w])
-    return log_of(frames + [[0x30, 6] + [4] * 2 + atom(0, 0, 1) + [5] + atom(1, 3, 3) + atom(0, 2, 3)])
+    wide, barred = [3] * 3 + [b for w in ways for b in w], [6, 4, 4] + atom(0, 0, 1) + [5] + atom(1, 3, 3) + atom(0, 2, 3)
+    return log_of([[0x10, stations] + [0, 0] * stations] + in_turn(stations, k, lambda i: i % 4) + [[0x30] + wide, [0x30] + barred])
 
 
 def replied(data, q, cut=None, short=0, size=300):

@@ -18,6 +18,15 @@ def log_of(frames):
     return b"".join(map(encode, frames))
 
 
+def in_turn(n, k, value):
+    """k events of n stations in turn, each of which has seen all before it; value gives that of the i-th."""
+    clock, events = [0] * n, []
+    for i in range(k):
+        clock[i % n] += 1
+        events.append([0x20, i % n] + word(value(i)) + clock)
+    return events
+
+
 # CASES
 
 def case(letter, data, question=0, cut=(), short=0, size=0):

@@ -132,27 +132,36 @@ def admit(log, f):
     log.frames.append(bytes(f))
 
 
+def frame_of(line):
+    """The frame of a line without its end; None is a line that has none."""
+    if line is None or len(line) % 2 or not 4 <= len(line) <= 200 or any(c not in DIGITS for c in line):
+        raise Refused(2)
+    frame = bytes.fromhex(line.decode())
+    if sum(frame) % 256:
+        raise Refused(3)
+    return frame[:-1]
+
+
+def read_frames(items, frame):
+    """The log of the frames that items stand for, or the first fault with its item's number."""
+    log = Log()
+    for number, item in enumerate(items, 1):
+        try:
+            admit(log, frame(item))
+        except Refused as r:
+            raise Refused(r.number, number) from None
+    if not items:
+        raise Refused(4, 1)
+    return log
+
+
 def read(data):
     """The log, or the first fault in document 01's order."""
     if len(data) > LOG:
         raise Refused(1)
-    log, lines = Log(), data.split(b"\n")
+    lines = data.split(b"\n")
     last = lines.pop()
-    if last:
-        lines.append(None)
-    for number, line in enumerate(lines, 1):
-        try:
-            if line is None or len(line) % 2 or not 4 <= len(line) <= 200 or any(c not in DIGITS for c in line):
-                raise Refused(2)
-            frame = bytes.fromhex(line.decode())
-            if sum(frame) % 256:
-                raise Refused(3)
-            admit(log, frame[:-1])
-        except Refused as r:
-            raise Refused(r.number, number) from None
-    if not lines:
-        raise Refused(4, 1)
-    return log
+    return read_frames(lines + [None] if last else lines, frame_of)
 
 
 class Walk:

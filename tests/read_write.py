@@ -1,6 +1,6 @@
 """The cases of Read and Write about document 01's limits and refusals, and what is to come of each."""
-from frames import ONE, atom, case, log_of
-from listing import LIST, LOG, Log, Refused, admit, encode, read
+from frames import ONE, atom, case, in_turn, log_of
+from listing import LIST, LOG, Refused, encode, read, read_frames
 
 HEADER = [0x10, 2, 0, 0, 0, 0]
 EVENT = [0x20, 0, 0, 5, 1, 0]
@@ -10,7 +10,7 @@ OR2, OR3 = [4] + atom() * 2, [4, 4] + atom() * 3
 
 def chain(k):
     """k events of station 0 of one."""
-    return [[0x20, 0, 0, i % 4, i + 1] for i in range(k)]
+    return in_turn(1, k, lambda i: i % 4)
 
 
 EIGHT = [0x10, 8] + [0, 7] * 8
@@ -18,12 +18,8 @@ EIGHT = [0x10, 8] + [0, 7] * 8
 
 def largest():
     """The longest accepted log: eight stations, 127 events, 16 questions of 32 tokens, 12 of them 01."""
-    events, clock = [], [0] * 8
-    for i in range(127):
-        clock[i % 8] += 1
-        events.append([0x20, i % 8, 1, 0] + clock)
     question = [0x30] + [2] * 9 + [3] * 11 + atom(7, 1, 65535) * 12
-    return [EIGHT] + events + [question] * 16
+    return [EIGHT] + in_turn(8, 127, lambda i: 256) + [question] * 16
 
 
 # Frames that are refused at their last one, and some that are accepted.
@@ -115,15 +111,7 @@ def read_list(l):
             raise Refused(14)
         fs.append(l[at + 1:at + 1 + k])
         at += 1 + k
-    log = Log()
-    for i, f in enumerate(fs, 1):
-        try:
-            admit(log, bytes(f))
-        except Refused as r:
-            raise Refused(r.number, i) from None
-    if not fs:
-        raise Refused(4, 1)
-    return log
+    return read_frames(fs, bytes)
 
 
 def outcome(letter, size, data):
