@@ -9,8 +9,8 @@ ghost use Rattle.model.specs.Limits.{limits, storeSize, workspaceSize, barspace
 ghost use Rattle.model.specs.Formula.{Formula};
 ghost use Rattle.model.specs.Computation.{Computation};
 ghost use Rattle.load.specs.Loading.{Accepts};
-ghost use Rattle.verdict.specs.Questions.{Question, cellsHeld};
-ghost use Rattle.finder.specs.Prepared.{Prepared};
+ghost use Rattle.question.specs.Questions.{Question, cellsHeld};
+ghost use Rattle.opening.specs.Prepared.{Prepared};
 
 // The bars at a place.
 fn print_bars(bs: &[u8], at: usize, n: usize)
@@ -58,7 +58,7 @@ fn print_basis(q: &[u8], x: Shape, starts: &[u8], facts: &[u16], ws: &mut [u8], 
 {
     let n = x.n;
     let e = x.e;
-    let basis = basis::basis_true(q, ws, bs, x, starts, facts);
+    let basis = question::work_out(q, x, starts, facts, ws, bs);
     let count = basis.count;
     trial::print_count(b"structures", count);
     print_structures(ws, bs, count, n, e);
@@ -76,13 +76,12 @@ fn print_questions(
     bs: &mut [u8],
 )
     requires { ⌜ (loaded .length ≤ length (now list)) × (workspaceSize ≤ length (now ws)) × (barspaceSize ≤ length (now bs)) ⌝ }
-    requires { ⌜ Prepared (loaded .state) (loaded .length) (now list) x (now starts) (now facts) ⌝ }
+    requires { ⌜ Prepared limits loaded (now list) x (now starts) (now facts) ⌝ }
 {
     let s = loaded.state;
-    let k = loaded.length;
     let mut i = 0;
     while i < s.questions {
-        let q = verdict::frames::question_at(list, k, s.first_question() + i);
+        let q = opening::asked(list, loaded, i);
         print_basis(q, x, starts, facts, ws, bs);
         i += 1;
     }
@@ -93,13 +92,9 @@ fn print_loaded(list: &[u8], store: &[u8], loaded: load::Loaded)
     requires { ⌜ (loaded .length ≤ length (now list)) × (length (now store) ≡ storeSize) ⌝ }
     requires { ⌜ ((log : List ℕ) × Accepts limits log (loaded .state) (loaded .length) (now list) (now store)) ⌝ }
 {
-    let s = loaded.state;
-    let n = s.stations;
-    let e = s.events;
-    let counts = s.counts;
     let mut starts = [0u8; Log::STARTS];
     let mut facts = [0u16; Log::FACTS];
-    let x = layout::lay(store, n, e, counts, &mut starts, &mut facts);
+    let x = opening::lay(store, loaded, &mut starts, &mut facts);
     let mut ws = [0u8; Log::WORKSPACE];
     let mut bs = [0u8; Log::BARSPACE];
     print_questions(list, loaded, x, &starts, &facts, &mut ws, &mut bs);

@@ -33,7 +33,7 @@ fn write_case(list: &[u8], out: &mut [u8]) {
 
 // Answers a question of the log.
 fn answer_case(log: &[u8], question: usize, ws: &mut [u8], bs: &mut [u8], out: &mut [u8]) {
-    match finder::answer(log, question, ws, bs, out) {
+    match answer::answer(log, question, ws, bs, out) {
         LineAnswer::Written(n) => trial::print_answer(n, out),
         LineAnswer::Refused(r) => trial::print_unanswered(r, ws, bs, out),
     }
@@ -48,7 +48,7 @@ fn holds_case(
     bs: &mut [u8],
     out: &mut [u8],
 ) {
-    match finder::holds(log, question, cut, ws, bs) {
+    match holds::holds(log, question, cut, ws, bs) {
         HoldsAnswer::Yes => trial::print_truth(true),
         HoldsAnswer::No => trial::print_truth(false),
         HoldsAnswer::Refused(r) => trial::print_unanswered(r, ws, bs, out),
@@ -58,8 +58,8 @@ fn holds_case(
 // Runs the program on the log.
 fn print_case(log: &[u8]) {
     io::write_all(1, b"\n");
-    let mut out = [0u8; finder::PRINTED];
-    let m = finder::print_log(log, &mut out);
+    let mut out = [0u8; print::PRINTED];
+    let m = print::print_log(log, &mut out);
     io::write_all(1, &out[..m]);
 }
 

@@ -1,12 +1,10 @@
 -- `cases::bases::print_basis`: there is room for the basis, and it has at most 16 structures. Assumes nothing.
-use native.Mathlib.Omega.{arith}
-use Rattle.verdict.proofs.Bases.{count-few, room, stands}
 use borrow.Author.Needs.{needs}
 use Rattle.cases.proofs.bases.print_basis.Statement.{statement}
 use Rattle.cases.proofs.bases.print_basis.Tie as tie
 
-basis-true-requires : tie.Need-basis-true-requires
-basis-true-requires c κs = let p = c .before .before .before .before .before .before .before .pre in room (p .0 .2) _ _ (p .0 .3) (p .1)
+work-out-requires : tie.Need-work-out-requires
+work-out-requires c κs = c .before .before .before .before .before .before .before .pre
 
 slice-aggregate-print-count : tie.Need-slice-aggregate-print-count
 slice-aggregate-print-count c = search needs
@@ -17,11 +15,9 @@ print-count-requires c κs = search needs
 print-structures-requires : tie.Need-print-structures-requires
 print-structures-requires c κs =
     let p = c .before .before .before .before .before .before .before .before .before .before .before .before .before .before .before .before .pre in
-    let g = p .0 .2 in
-    let l = g .laid .0 .shaped in
-    let b = c .before .before .before .before .before .before .before .before .basis-true in
-    let s = stands g (b .ensures) (omega (arith, b .kept .1 .0, p .0 .3)) (omega (arith, b .kept .1 .1 .0, p .1)) in
-    (l .some-station, l .few-stations, l .few-events, count-few g (b .ensures), s .cells-fit, s .bars-fit)
+    let w = c .before .before .before .before .before .before .before .before .work-out .ensures _ _ (p .0 .2) in
+    let l = w .stands .shaped in
+    (l .some-station, l .few-stations, l .few-events, w .few, w .stands .cells-fit, w .stands .bars-fit)
 
 slice-aggregate-print-count-2 : tie.Need-slice-aggregate-print-count-2
 slice-aggregate-print-count-2 c = search needs
@@ -45,7 +41,7 @@ pub print-basis-spec : {M : Type 1} → statement M
 print-basis-spec =
     tie.close
     (tie.spec
-    basis-true-requires
+    work-out-requires
     slice-aggregate-print-count
     print-count-requires
     print-structures-requires

@@ -1,5 +1,6 @@
 -- `cases::bases::print_loaded`: the log is laid out once, and all its questions are worked out over that. Assumes nothing.
-use Rattle.finder.proofs.Logs.{loaded, counts-total}
+use mathlib.Core.Path.{refl}
+use Rattle.load.proofs.Loads.{no-larger}
 use borrow.Author.Needs.{needs}
 use Rattle.cases.proofs.bases.print_loaded.Statement.{statement}
 use Rattle.cases.proofs.bases.print_loaded.Tie as tie
@@ -11,10 +12,7 @@ slice-aggregate-lay-2 : tie.Need-slice-aggregate-lay-2
 slice-aggregate-lay-2 c = search needs
 
 lay-requires : tie.Need-lay-requires
-lay-requires c κs =
-    let p = c .before .before .before .before .before .before .pre in
-    let a = p .1 .1 in
-    ((a .some-stations, a .bounded .few-stations, p .0 .1, search needs, search needs), (a .bounded .eight, counts-total a, a .bounded .few-events))
+lay-requires c κs = let p = c .before .before .before .before .pre in ((p .0 .1, search needs, search needs), (_, record { limits-are = _; small = no-larger _ refl; log = _; accepts = p .1 .1 }))
 
 slice-aggregate-print-questions : tie.Need-slice-aggregate-print-questions
 slice-aggregate-print-questions c = search needs
@@ -30,9 +28,9 @@ slice-aggregate-print-questions-4 c = search needs
 
 print-questions-requires : tie.Need-print-questions-requires
 print-questions-requires c κs =
-    let p = c .before .before .before .before .before .before .before .before .before .before .before .before .before .pre in
+    let p = c .before .before .before .before .before .before .before .before .before .before .before .pre in
     let a = p .1 .1 in
-    ((p .0 .0, search needs, search needs), record { log = _; table = _; accepts = a; laid = c .before .before .before .before .before .before .lay .ensures .2 _ (loaded a) })
+    ((p .0 .0, search needs, search needs), record { log = _; store = _; accepts = a; laid = c .before .before .before .before .before .before .lay .ensures .1 _ _ _ a })
 
 returns : tie.Need-returns
 returns c = search needs
