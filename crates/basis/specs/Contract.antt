@@ -16,7 +16,7 @@ use Rattle.structure.specs.Laid.{Laid, Facts}
 use Rattle.lattice.proofs.Lists.{All}
 use Rattle.lattice.proofs.Bases.{Good}
 use Rattle.modal.specs.Post.{Least}
-use Rattle.pairs.specs.Post.{standingFrom}
+use Rattle.pair.specs.Post.{standingFrom}
 use Rattle.lattice.specs.Signed.{normal}
 use Rattle.basis.specs.Signed.{joinedBasis, joinedRounds, liftedBasis}
 

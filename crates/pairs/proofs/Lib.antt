@@ -1,5 +1,3 @@
-pub mod Bars
 pub mod Putting
 pub mod Room
 pub mod Goods
-mod Tables

@@ -1,25 +1,22 @@
--- Structures put one behind the other: one pair, a row of pairs, all pairs.
+-- Pairs put one behind the other: a row of pairs, all pairs.
 use mathlib.Core.Path.{_≡_, refl, sym, ap, ap₂, subst, _∙_}
 use Prim.Native.Nat.{ℕ, suc, _+_, _-_, _*_, _≤_, _<_}
 use native.Mathlib.Omega.{arith}
 use native.Mathlib.Nat.{add-mul, mul-le-mul-right, not-suc-le-zero}
 use mathlib.Core.List.{List, [], _∷_, _++_, append-nil}
-use mathlib.Core.Bool.{Bool, true, false, cond}
+use mathlib.Core.Bool.{Bool, true, false}
 use lib.Dec.{ltb}
 use lib.ListN.{length, getD, take, drop, length-drop}
-use lib.Seq.{paste, getD-take, getD-drop, drop-drop}
+use lib.Seq.{paste, getD-drop, drop-drop}
 use borrow.Author.Tests.{ltb-true, ltb-false}
 use Rattle.model.specs.Lists.{sum, total}
-use Rattle.model.specs.Cut.{empty, insideAny}
-use Rattle.model.specs.Computation.{Computation, stations, full, eventCount}
-use Rattle.model.specs.Structure.{Structure, row, greatest, keep, build, buildOn}
-use Rattle.model.specs.Basis.{start, intersect, each, pairs}
+use Rattle.model.specs.Computation.{Computation, full, eventCount}
+use Rattle.model.specs.Structure.{Structure, row}
+use Rattle.model.specs.Basis.{intersect, each}
 use Rattle.model.specs.Rounds.{roundsOfPair}
-use Rattle.structure.specs.Layout.{decoded, structureAt, standing, barsAt, cells, barCells}
-use Rattle.rounds.specs.Pair.{Intersected}
+use Rattle.structure.specs.Layout.{structureAt, standing, cells, barCells}
 use Rattle.lattice.proofs.Sums.{sum-snoc}
 use Rattle.cells.proofs.Parts.{front-same, part-same, cell-same, paste-part}
-use Rattle.structure.proofs.Rows.{decoded-none, decoded-some}
 use Rattle.structure.proofs.Places.{one-more, cells-are, next-fits}
 use Rattle.structure.proofs.Standing.{structure-same, standing-same, standing-add}
 use Rattle.modal.specs.Post.{Least}
@@ -28,7 +25,8 @@ use Rattle.structure.specs.declared.Shape.{Shape}
 use Rattle.slots.specs.Slots.{Slots}
 use Rattle.lattice.proofs.Lists.{All}
 use Rattle.lattice.proofs.Bases.{Good}
-use Rattle.pairs.specs.Post.{structureOf, standingFrom, BarsJoined, Put, OnePair, RowPair, AllPairs}
+use Rattle.pair.specs.Post.{structureOf, standingFrom, Put, OnePair}
+use Rattle.pairs.specs.Post.{RowPair, AllPairs}
 use Rattle.pairs.proofs.Goods.{standing-each}
 
 -- LISTS
@@ -126,65 +124,6 @@ module _ (n e : ℕ) where
       bars-kept = front-same ((o + k) * slot) b₂ b₁ (second .bars-kept) (o * slot) (omega (arith, add-mul o k slot)) ∙ first .bars-kept;
       least = put-least;
     }
-
-  -- ONE PAIR
-
-  module _ (z : 0 < n) (P : Computation → Type 0) (num : (K : Computation) → P K → eventCount K ≡ e) (stationed : (K : Computation) → P K → stations K ≡ n) (i j o : ℕ) (w w₁ b b₁ : List ℕ) (rounds : ℕ)
-      (inter : (K : Computation) → P K → Intersected K (structureOf n e K w b i) (structureOf n e K w b j) n (drop (o * size) w₁) rounds)
-      (fw : take (o * size) w₁ ≡ take (o * size) w) (bars : BarsJoined n (i * slot) (j * slot) (o * slot) b b₁) where
-    abbrev one : Computation → List Structure
-    one K = intersect K (structureOf n e K w b i) (structureOf n e K w b j)
-
-    abbrev cost : Computation → ℕ
-    cost K = roundsOfPair K (structureOf n e K w b i) (structureOf n e K w b j)
-
-    first-is : getD (take n (drop (o * size) w₁)) 0 0 ≡ getD w₁ (o * size) 0
-    first-is = getD-take n (drop (o * size) w₁) 0 0 z ∙ getD-drop (o * size) w₁ 0 0 ∙ ap (λ (x : ℕ). getD w₁ x 0) (let q : o * size + 0 ≡ o * size = omega arith in q)
-
-    module _ (K : Computation) (h : P K) where
-      least-is : (start K (structureOf n e K w b i) (structureOf n e K w b j) (empty (stations K))) .reached ≡ decoded (take n (drop (o * size) w₁))
-      least-is = ap (λ (x : ℕ). (start K (structureOf n e K w b i) (structureOf n e K w b j) (empty x)) .reached) (stationed K h) ∙ sym (inter K h .least)
-
-      one-none : getD w₁ (o * size) 0 ≡ 255 → one K ≡ []
-      unfolding intersect build buildOn
-      one-none f = rw (least-is, decoded-none (take n (drop (o * size) w₁)) (first-is ∙ f))
-
-      one-some : (getD w₁ (o * size) 0 ≡ 255 → ⊥) → one K ≡ keep (structureOf n e K w₁ b₁ o)
-      unfolding intersect build buildOn
-      one-some f = rw (least-is, decoded-some (take n (drop (o * size) w₁)) (λ g. f (sym first-is ∙ g)), bars .bars, inter K h .rows)
-
-    module _ (k : ℕ) (stands : (K : Computation) → P K → standingFrom n e K w₁ b₁ o k ≡ one K)
-        (there : 0 < k → getD w₁ (o * size) 0 ≡ 255 → ⊥) (few : k ≤ 1) where
-      put-one : Put n e o k P w w₁ b b₁ one cost rounds
-      put-one = record {
-        stands = stands;
-        summed = λ K h. inter K h .rounds;
-        cells-kept = fw;
-        bars-kept = bars .front;
-        least = λ t h f. there (omega arith) (ap (λ (x : ℕ). getD w₁ (x * size) 0) (let q : o ≡ o + t = omega arith in q) ∙ f);
-      }
-
-    pub one-empty : getD w₁ (o * size) 0 ≡ 255 → Put n e o 0 P w w₁ b b₁ one cost rounds
-    unfolding standing
-    one-empty f = put-one 0 (λ K h. sym (one-none K h f)) (λ h. absurd (not-suc-le-zero h)) (omega arith)
-
-    module _ (f : getD w₁ (o * size) 0 ≡ 255 → ⊥) (t : Bool)
-        (test : (counts d : List ℕ) → total counts ≡ e → t ≡ insideAny (greatest (structureAt n counts (drop (o * size) w₁) d)) (barsAt n 16 (drop (o * slot) b₁))) where
-      keep-is : (K : Computation) → P K → one K ≡ cond t [] (structureOf n e K w₁ b₁ o ∷ [])
-      unfolding keep
-      keep-is K h =
-          one-some K h f
-          ∙ ap (λ (x : Bool). cond x [] (structureOf n e K w₁ b₁ o ∷ []))
-          (sym (test (full K) (drop (o * slot) b₁) (num K h)))
-
-      pub one-dropped : t ≡ true → Put n e o 0 P w w₁ b b₁ one cost rounds
-      unfolding standing
-      one-dropped y =
-          put-one 0 (λ K h. sym (keep-is K h ∙ ap (λ (x : Bool). cond x [] (structureOf n e K w₁ b₁ o ∷ [])) y)) (λ h. absurd (not-suc-le-zero h)) (omega arith)
-
-      pub one-kept : t ≡ false → Put n e o 1 P w w₁ b b₁ one cost rounds
-      unfolding standing
-      one-kept y = put-one 1 (λ K h. sym (keep-is K h ∙ ap (λ (x : Bool). cond x [] (structureOf n e K w₁ b₁ o ∷ [])) y)) (λ h. f) (omega arith)
 
   -- A ROW OF PAIRS
 

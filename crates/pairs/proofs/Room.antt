@@ -11,7 +11,8 @@ use Rattle.structure.specs.Layout.{barsAt}
 use Rattle.cells.proofs.Parts.{part-same}
 use Rattle.structure.proofs.Places.{one-more, next-fits}
 use Rattle.structure.proofs.Standing.{bars-same}
-use Rattle.pairs.specs.Post.{Put, OneReady, RowReady, PairsReady}
+use Rattle.pair.specs.Post.{Put, OneReady}
+use Rattle.pairs.specs.Post.{RowReady, PairsReady}
 use Rattle.pairs.proofs.Putting.{rowX, rowY, allX, allY}
 
 -- What stands before structure o, where that has been kept.
@@ -45,9 +46,14 @@ pub row-done : (n e i l r o c j : ℕ) (P : Computation → Type 0) (w₀ w b₀
     → Put n e o c P w₀ w b₀ b (rowX n e w₀ b₀ i l j) (rowY n e w₀ b₀ i l j) s → Put n e o c P w₀ w b₀ b (rowX n e w₀ b₀ i l r) (rowY n e w₀ b₀ i l r) s
 row-done n e i l r o c j P w₀ w b₀ b s q p = rw (← q) p
 
-pub all-done : (n e i l r o c : ℕ) (P : Computation → Type 0) (w₀ w b₀ b : List ℕ) (s : ℕ) → i ≡ l
-    → Put n e o c P w₀ w b₀ b (allX n e w₀ b₀ l r i) (allY n e w₀ b₀ l r i) s → Put n e o c P w₀ w b₀ b (allX n e w₀ b₀ l r l) (allY n e w₀ b₀ l r l) s
-all-done n e i l r o c P w₀ w b₀ b s q p = subst (λ (x : ℕ). Put n e o c P w₀ w b₀ b (allX n e w₀ b₀ l r x) (allY n e w₀ b₀ l r x) s) q p
+pub all-done : (n e i l r c : ℕ) (P : Computation → Type 0) (w₀ w b₀ b : List ℕ) (s : ℕ) → i ≡ l → c ≤ i * r → s ≤ i * r * ((e + 1) * (e + 2))
+    → Put n e (l + r) c P w₀ w b₀ b (allX n e w₀ b₀ l r i) (allY n e w₀ b₀ l r i) s
+    → (c ≤ l * r) × (s ≤ l * r * ((e + 1) * (e + 2))) × Put n e (l + r) c P w₀ w b₀ b (allX n e w₀ b₀ l r l) (allY n e w₀ b₀ l r l) s
+all-done n e i l r c P w₀ w b₀ b s q h k p = (
+  subst (λ (x : ℕ). c ≤ x * r) q h,
+  subst (λ (x : ℕ). s ≤ x * r * ((e + 1) * (e + 2))) q k,
+  subst (λ (x : ℕ). Put n e (l + r) c P w₀ w b₀ b (allX n e w₀ b₀ l r x) (allY n e w₀ b₀ l r x) s) q p,
+)
 
 pub row-ready : (n e i l r c : ℕ) (P : Computation → Type 0) (w₀ w b₀ b : List ℕ) (X : Computation → List Structure) (Y : Computation → ℕ) (s : ℕ) → 0 < n
     → PairsReady n e l r w₀ b₀ → Put n e (l + r) c P w₀ w b₀ b X Y s → length w ≡ length w₀ → length b ≡ length b₀ → i < l → c ≤ i * r

@@ -4,10 +4,11 @@ use Prim.Native.Nat.{ℕ, _≤_, _<_, _+_, _-_, _*_}
 use native.Mathlib.Omega.{arith}
 use lib.ListN.{length}
 use Rattle.model.specs.Structure.{row}
-use Rattle.pairs.specs.Post.{structureOf, Put, OnePair, RowPair}
+use Rattle.pair.specs.Post.{structureOf, Put, OnePair}
+use Rattle.pairs.specs.Post.{RowPair}
 use Rattle.pairs.proofs.Putting.{rowX, rowY, row-none, row-more, row-knows}
 use Rattle.pairs.proofs.Room.{one-ready, row-room, row-done, row-rounds, rounds-done, rows-fit, pair-small}
-use Rattle.pairs.proofs.Tables as laws
+use Rattle.pair.proofs.Tables as laws
 use borrow.Author.Needs.{needs}
 use Rattle.pairs.proofs.pair_row.Statement.{statement}
 use Rattle.pairs.proofs.pair_row.Tie as tie

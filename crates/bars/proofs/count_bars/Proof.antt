@@ -5,9 +5,9 @@ use native.Mathlib.Omega.{arith}
 use lib.ListN.{length, drop}
 use Rattle.structure.specs.Layout.{barsAt}
 use Rattle.structure.proofs.Places.{next-fits}
-use Rattle.pairs.proofs.Bars as bars
-use Rattle.pairs.proofs.count_bars.Statement.{statement}
-use Rattle.pairs.proofs.count_bars.Tie as tie
+use Rattle.bars.proofs.Bars as bars
+use Rattle.bars.proofs.count_bars.Statement.{statement}
+use Rattle.bars.proofs.count_bars.Tie as tie
 
 abbrev Inv-loop : tie.InvT-loop
 Inv-loop bs at n i₀ i =

@@ -18,7 +18,7 @@ use Rattle.structure.proofs.Rows.{decoded-some}
 use Rattle.structure.proofs.Places.{row-place}
 use Rattle.slots.specs.Slots.{number, Small, Says, Slots, Rows, Offsets}
 use Rattle.structure.specs.Laid.{Laid}
-use Rattle.pairs.specs.Post.{structureOf, Begun}
+use Rattle.pair.specs.Post.{structureOf, Begun}
 
 -- The rows of a structure in the workspace, if those that are there are consistent cuts.
 module _ (K : Computation) (m : Small K) (n : ℕ) (stationed : stations K ≡ n) (w bs : List ℕ) (at : ℕ) where

@@ -17,7 +17,7 @@ use Rattle.structure.proofs.Rows.{first-at}
 use Rattle.structure.proofs.Places.{one-more}
 use Rattle.structure.proofs.Listed.{cuts-add, cuts-same}
 use Rattle.steps.specs.Rows.{Ended}
-use Rattle.pairs.specs.Post.{BarsJoined}
+use Rattle.bars.specs.Post.{BarsJoined}
 
 -- COUNTING
 

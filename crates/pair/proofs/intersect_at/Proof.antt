@@ -1,4 +1,4 @@
--- `pairs::intersect_at` meets its contract: the right structure stands in a table too, and the rows go to their place.
+-- `pair::intersect_at` meets its contract: the right structure stands in a table too, and the rows go to their place.
 use mathlib.Core.Path.{_≡_, sym, ap, subst, _∙_}
 use Prim.Native.Nat.{ℕ, _+_, _*_, _≤_}
 use native.Mathlib.Omega.{arith}
@@ -8,12 +8,12 @@ use lib.Seq.{take-at, drop-at, length-take-le}
 use Rattle.model.specs.Structure.{row}
 use Rattle.cells.proofs.Parts.{put-end}
 use Rattle.structure.proofs.Places.{one-more, next-fits}
-use Rattle.pairs.proofs.Tables as laws
+use Rattle.pair.proofs.Tables as laws
 use Rattle.rounds.specs.Pair.{Intersected}
-use Rattle.pairs.specs.Post.{structureOf}
+use Rattle.pair.specs.Post.{structureOf}
 use borrow.Author.Needs.{needs}
-use Rattle.pairs.proofs.intersect_at.Statement.{statement}
-use Rattle.pairs.proofs.intersect_at.Tie as tie
+use Rattle.pair.proofs.intersect_at.Statement.{statement}
+use Rattle.pair.proofs.intersect_at.Tie as tie
 
 add-size : tie.Need-add-size
 add-size c = search needs

@@ -1,13 +1,13 @@
--- `pairs::barred_out` meets its contract: where the first bar is not used, no cut is contained in one.
+-- `bars::barred_out` meets its contract: where the first bar is not used, no cut is contained in one.
 use mathlib.Core.Path.{sym, ap, _∙_}
 use lib.ListN.{drop}
 use Rattle.model.specs.Cut.{Cut, insideAny}
 use Rattle.structure.specs.Layout.{barsAt}
-use Rattle.pairs.proofs.Bars.{no-bars}
+use Rattle.bars.proofs.Bars.{no-bars}
 use Rattle.structure.proofs.Rows.{first-at}
 use borrow.Author.Needs.{needs}
-use Rattle.pairs.proofs.barred_out.Statement.{statement}
-use Rattle.pairs.proofs.barred_out.Tie as tie
+use Rattle.bars.proofs.barred_out.Statement.{statement}
+use Rattle.bars.proofs.barred_out.Tie as tie
 
 shared-slice-read-if1 : tie.Need-shared-slice-read-if1
 shared-slice-read-if1 c = search needs

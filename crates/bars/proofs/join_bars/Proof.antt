@@ -1,10 +1,10 @@
 -- Both copies lie within the slot.
 use mathlib.Core.Logic.{inl}
 use native.Mathlib.Omega.{arith}
-use Rattle.pairs.proofs.Bars as bars
+use Rattle.bars.proofs.Bars as bars
 use borrow.Author.Needs.{needs}
-use Rattle.pairs.proofs.join_bars.Statement.{statement}
-use Rattle.pairs.proofs.join_bars.Tie as tie
+use Rattle.bars.proofs.join_bars.Statement.{statement}
+use Rattle.bars.proofs.join_bars.Tie as tie
 
 count-bars-requires : tie.Need-count-bars-requires
 count-bars-requires c κs = search needs

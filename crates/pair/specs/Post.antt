@@ -1,0 +1,53 @@
+-- What one pair asks and leaves.
+use Prim.Native.Nat.{ℕ, _+_, _*_, _≤_, _<_}
+use mathlib.Core.Path.{_≡_}
+use mathlib.Core.List.{List}
+use lib.ListN.{length, getD, take, drop}
+use Rattle.model.specs.Lists.{total}
+use Rattle.model.specs.Computation.{Computation, stations, full, eventCount}
+use Rattle.model.specs.Structure.{Structure, row}
+use Rattle.lattice.proofs.Bases.{Good}
+use Rattle.structure.specs.declared.Shape.{Shape}
+use Rattle.structure.specs.Layout.{structureAt, standing, barsAt}
+use Rattle.slots.specs.Slots.{Small, Slots}
+use Rattle.rounds.specs.Pair.{Clocks}
+
+-- Structure i of those that stand in w and b, and k of them from structure i on.
+abbrev pub structureOf : ℕ → ℕ → Computation → List ℕ → List ℕ → ℕ → Structure
+structureOf n e K w b i = structureAt n (full K) (drop (i * ((e + 1) * n)) w) (drop (i * (16 * n)) b)
+
+abbrev pub standingFrom : ℕ → ℕ → Computation → List ℕ → List ℕ → ℕ → ℕ → List Structure
+standingFrom n e K w b i k = standing n (full K) k (drop (i * ((e + 1) * n)) w) (drop (i * (16 * n)) b)
+
+-- From structure o on k structures have been put, those that X says, in the rounds that Y says, of each computation of which P is known;
+-- what stands before them is as it was.
+pub record Put (n e o k : ℕ) (P : Computation → Type 0) (w w₂ b b₂ : List ℕ) (X : Computation → List Structure) (Y : Computation → ℕ) (rounds : ℕ) : Type 0 where
+  pub stands : (K : Computation) → P K → standingFrom n e K w₂ b₂ o k ≡ X K
+  pub summed : (K : Computation) → P K → rounds ≡ Y K
+  pub cells-kept : take (o * ((e + 1) * n)) w₂ ≡ take (o * ((e + 1) * n)) w
+  pub bars-kept : take (o * (16 * n)) b₂ ≡ take (o * (16 * n)) b
+  pub least : (j : ℕ) → j < k → getD w₂ ((o + j) * ((e + 1) * n)) 0 ≡ 255 → ⊥
+
+-- A computation of shape x, its starts as a table.
+pub record Begun (x : Shape) (first : List ℕ) (K : Computation) : Type 0 where
+  pub small : Small K
+  pub stationed : stations K ≡ x .n
+  pub counted : eventCount K ≡ x .e
+  pub offs-are : (j : ℕ) → j < x .n → getD (x .offs) j 0 ≡ total (take j (full K))
+  pub clocks-are : Clocks K first
+
+-- A pair of structures of a basis, the left one also as a table.
+pub record OnePair (x : Shape) (left first w b : List ℕ) (i j : ℕ) (K : Computation) : Type 0 where
+  pub begun : Begun x first K
+  pub good-left : Good K (structureOf (x .n) (x .e) K w b i)
+  pub slots-left : Slots K (row (structureOf (x .n) (x .e) K w b i)) left
+  pub good-right : Good K (structureOf (x .n) (x .e) K w b j)
+
+-- Room for a pair of structures i and j at structure o.
+pub record OneReady (n e i j o : ℕ) (w b : List ℕ) : Type 0 where
+  pub left : i < o
+  pub right : j < o
+  pub cells-fit : (o + 1) * ((e + 1) * n) ≤ length w
+  pub bars-fit : (o + 1) * (16 * n) ≤ length b
+  pub small : o ≤ 300
+  pub bars : length (barsAt n 16 (drop (i * (16 * n)) b)) + length (barsAt n 16 (drop (j * (16 * n)) b)) ≤ 16
