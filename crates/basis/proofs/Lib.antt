@@ -1,5 +1,1 @@
-pub mod Atoms
-pub mod Tokens
-pub mod Normals
-pub mod Operands
 pub mod Pairing

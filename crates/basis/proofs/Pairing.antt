@@ -31,13 +31,13 @@ use Rattle.structure.proofs.Standing.{standing-same, length-standing}
 use Rattle.modal.specs.Post.{Least}
 use Rattle.cells.proofs.Parts.{put-end}
 use Rattle.modal.proofs.Laws.{part-room}
-use Rattle.basis.specs.Signed.{twoToken, joinedBasis, joinedRounds}
-use Rattle.basis.specs.Contract.{roundsMost, Ready, Made, Combined}
+use Rattle.token.specs.Signed.{twoToken, joinedBasis, joinedRounds}
+use Rattle.token.specs.Contract.{roundsMost, Ready, Made, Combined}
 use Rattle.pairs.specs.Post.{PairsReady}
 use Rattle.pairs.proofs.Goods.{standing-good}
-use Rattle.basis.proofs.Tokens as tokens
-use Rattle.basis.proofs.Normals as normals
-use Rattle.basis.proofs.Operands.{Done, done-at, question-some}
+use Rattle.token.proofs.Tokens as tokens
+use Rattle.token.proofs.Normals as normals
+use Rattle.token.proofs.Operands.{Done, done-at, question-some}
 
 -- The bars of structure i.
 bars-at : (n : ℕ) (counts : List ℕ) (k : ℕ) (w b : List ℕ) (S : Structure) (i : ℕ) → i < k → (getD (standing n counts k w b) i S) .bars ≡ barsAt n 16 (drop (i * (16 * n)) b)

@@ -26,7 +26,7 @@ use Rattle.codec.proofs.Lawful.{Lawful}
 use Rattle.codec.proofs.QuestionFrames.{questionFrames, question-spelt}
 use Rattle.codec.proofs.Readings.{log-are-frames}
 use Rattle.structure.specs.declared.Shape.{Shape}
-use Rattle.basis.specs.Contract.{Given}
+use Rattle.token.specs.Contract.{Given}
 use Rattle.frame.specs.declared.State.{State}
 use Rattle.frame.specs.State.{firstQuestion, Bounded}
 use Rattle.load.specs.Loading.{Accepts}

@@ -14,7 +14,7 @@ ghost use Rattle.model.specs.Limits.{limits, storeSize, startsSize, factsSize};
 ghost use Rattle.model.specs.Formula.{Formula, prefix};
 ghost use Rattle.model.specs.Operations.{cramped};
 ghost use Rattle.codec.specs.Limits.{NoLarger};
-ghost use Rattle.basis.specs.Contract.{Given};
+ghost use Rattle.token.specs.Contract.{Given};
 ghost use Rattle.load.specs.Loading.{Accepts};
 ghost use Rattle.opening.specs.Opening.{Holding, Opens};
 

@@ -17,7 +17,7 @@ use Rattle.lattice.proofs.Held.{fits-to, width-held, barspace-fits}
 use Rattle.structure.specs.Layout.{standing}
 use Rattle.structure.specs.declared.Shape.{Shape}
 use Rattle.structure.proofs.Standing.{length-standing}
-use Rattle.basis.specs.Contract.{Ready, Made}
+use Rattle.token.specs.Contract.{Ready, Made}
 use Rattle.listing.specs.Stands.{Stands}
 use Rattle.listing.specs.Worked.{Worked}
 use Rattle.question.specs.Questions.{Question, cellsHeld}

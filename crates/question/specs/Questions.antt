@@ -10,7 +10,7 @@ use Rattle.model.specs.Size.{held, fits}
 use Rattle.model.specs.Computation.{Computation}
 use Rattle.model.specs.Rules.{asTrue}
 use Rattle.structure.specs.declared.Shape.{Shape}
-use Rattle.basis.specs.Contract.{Given}
+use Rattle.token.specs.Contract.{Given}
 
 -- A list of frames has a frame at an index.
 pub record Indexed (list : List ℕ) (index : ℕ) : Type 0 where

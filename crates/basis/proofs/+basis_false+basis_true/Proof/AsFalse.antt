@@ -8,19 +8,19 @@ use borrow.Rule.Slice.PartMut.{same-len-mid}
 use lib.Dec.{eqb}
 use lib.ListN.{length, getD}
 use Rattle.steps.proofs.Parts.{size-small}
-use Rattle.basis.specs.Signed.{twoToken}
-use Rattle.basis.proofs.Tokens as tokens
-use Rattle.basis.proofs.Operands as laws
+use Rattle.token.specs.Signed.{twoToken}
+use Rattle.token.proofs.Tokens as tokens
+use Rattle.token.proofs.Operands as laws
 use Rattle.basis.proofs.Pairing as pairing
 use Prim.Native.Nat.{ℕ, _+_, _*_, _-_}
 use Rattle.basis.proofs.basis_false.Reads as basis-false
 use Rattle.basis.proofs.+basis_false+basis_true.Lts-basis_false as basis-false-lts
 use Rattle.basis.proofs.basis_true.Reads as basis-true
 use Rattle.cells.proofs.after.Reads as after-reads
-use Rattle.basis.proofs.combine.Reads as combine-reads
-use Rattle.basis.proofs.leaf.Reads as leaf-reads
-use Rattle.basis.proofs.lift.Reads as lift-reads
-use Rattle.basis.proofs.passed.Reads as passed-reads
+use Rattle.token.proofs.combine.Reads as combine-reads
+use Rattle.token.proofs.leaf.Reads as leaf-reads
+use Rattle.token.proofs.lift.Reads as lift-reads
+use Rattle.token.proofs.passed.Reads as passed-reads
 use Rattle.basis.proofs.+basis_false+basis_true.Proof.Cycle.{basis-false-at, basis-false-below, basis-true-below}
 
 abbrev pub R-basis-false : ℕ → basis-false-lts.Claims

@@ -20,9 +20,9 @@ use Rattle.lattice.proofs.Weights.{signsOf, weight-true, weight-false}
 use Rattle.lattice.proofs.Rounds.{rounds-normal, square}
 use Rattle.lattice.specs.Signed.{normal, joinedForm, liftedForm}
 use Rattle.model.specs.Limits.{limits, pairRounds}
-use Rattle.basis.specs.Contract.{roundsMost}
-use Rattle.basis.specs.Signed.{joinedBasis, joinedRounds, liftedBasis}
-use Rattle.basis.proofs.Tokens.{signs-tokens}
+use Rattle.token.specs.Contract.{roundsMost}
+use Rattle.token.specs.Signed.{joinedBasis, joinedRounds, liftedBasis}
+use Rattle.token.proofs.Tokens.{signs-tokens}
 
 -- SIZES
 

@@ -1,9 +1,9 @@
 -- The two steps, under their flag.
 use mathlib.Core.Path.{refl}
-use Rattle.basis.proofs.Operands as laws
+use Rattle.token.proofs.Operands as laws
 use borrow.Author.Needs.{needs}
-use Rattle.basis.proofs.lift.Statement.{statement}
-use Rattle.basis.proofs.lift.Tie as tie
+use Rattle.token.proofs.lift.Statement.{statement}
+use Rattle.token.proofs.lift.Tie as tie
 
 lower-requires : tie.Need-lower-requires
 lower-requires c κs = search needs

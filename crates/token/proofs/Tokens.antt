@@ -12,8 +12,8 @@ use Rattle.model.specs.Atom.{Atom, atomBytes}
 use Rattle.model.specs.Formula.{Formula, prefix, weigh, tokens, signs}
 use Rattle.model.specs.Formula.Formula.{atom, not, and, or, possibly, always}
 use Rattle.lattice.specs.Signed.{two, modal}
-use Rattle.basis.specs.Signed.{twoToken, modalToken}
-use Rattle.basis.proofs.Atoms as atoms
+use Rattle.token.specs.Signed.{twoToken, modalToken}
+use Rattle.token.proofs.Atoms as atoms
 
 -- The token byte.
 unfoldable pub token : Formula → ℕ

@@ -12,12 +12,12 @@ use Rattle.model.specs.Structure.{build}
 use Rattle.structure.specs.Layout.{standing}
 use Rattle.structure.specs.declared.Shape.{Shape}
 use Rattle.cells.proofs.Parts.{word-at}
-use Rattle.basis.specs.Contract.{Given, Ready, Made}
-use Rattle.basis.proofs.Atoms.{at-range, range-station}
-use Rattle.basis.proofs.Operands as laws
+use Rattle.token.specs.Contract.{Given, Ready, Made}
+use Rattle.token.proofs.Atoms.{at-range, range-station}
+use Rattle.token.proofs.Operands as laws
 use borrow.Author.Needs.{needs}
-use Rattle.basis.proofs.range.Statement.{statement}
-use Rattle.basis.proofs.range.Tie as tie
+use Rattle.token.proofs.range.Statement.{statement}
+use Rattle.token.proofs.range.Tie as tie
 
 module _ (s : Bool) (x : Shape) (q starts facts : List ℕ) where
   bytes-there : (mw mb : ℕ) → Ready s x q starts facts mw mb → getD q 0 0 ≡ 1 → (6 ≤ length q) × (getD q 1 0 < x .n)

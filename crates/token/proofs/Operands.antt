@@ -28,12 +28,12 @@ use Rattle.steps.proofs.Built.{first-row, start-there}
 use Rattle.structure.proofs.Places.{cells-are}
 use Rattle.structure.proofs.Standing.{standing-add, length-standing}
 use Rattle.modal.specs.Post.{Least, Possible, Impossible}
-use Rattle.basis.specs.Signed.{twoToken, modalToken, liftedBasis}
+use Rattle.token.specs.Signed.{twoToken, modalToken, liftedBasis}
 use Rattle.structure.specs.declared.Shape.{Shape}
-use Rattle.basis.specs.Contract.{roundsMost, Given, Ready, Made, Combined, Lifted}
+use Rattle.token.specs.Contract.{roundsMost, Given, Ready, Made, Combined, Lifted}
 use Rattle.pairs.specs.Post.{Paired}
-use Rattle.basis.proofs.Tokens as tokens
-use Rattle.basis.proofs.Normals as normals
+use Rattle.token.proofs.Tokens as tokens
+use Rattle.token.proofs.Normals as normals
 
 -- STEPS
 

@@ -18,7 +18,7 @@ use Rattle.lattice.proofs.Bases.{Good}
 use Rattle.modal.specs.Post.{Least}
 use Rattle.pair.specs.Post.{standingFrom}
 use Rattle.lattice.specs.Signed.{normal}
-use Rattle.basis.specs.Signed.{joinedBasis, joinedRounds, liftedBasis}
+use Rattle.token.specs.Signed.{joinedBasis, joinedRounds, liftedBasis}
 
 -- The most rounds of a question.
 abbrev pub roundsMost : ℕ

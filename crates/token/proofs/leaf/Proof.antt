@@ -6,12 +6,12 @@ use mathlib.Core.List.{List}
 use mathlib.Core.Bool.{Bool}
 use lib.ListN.{getD}
 use Rattle.structure.specs.declared.Shape.{Shape}
-use Rattle.basis.specs.Contract.{Ready}
-use Rattle.basis.proofs.Atoms.{head-is, token-is}
-use Rattle.basis.proofs.Operands as laws
+use Rattle.token.specs.Contract.{Ready}
+use Rattle.token.proofs.Atoms.{head-is, token-is}
+use Rattle.token.proofs.Operands as laws
 use borrow.Author.Needs.{needs}
-use Rattle.basis.proofs.leaf.Statement.{statement}
-use Rattle.basis.proofs.leaf.Tie as tie
+use Rattle.token.proofs.leaf.Statement.{statement}
+use Rattle.token.proofs.leaf.Tie as tie
 
 -- The token is an atom's.
 token-there : (s : Bool) (x : Shape) (q starts facts : List ℕ) (mw mb : ℕ) → Ready s x q starts facts mw mb

@@ -1,0 +1,4 @@
+pub mod Atoms
+pub mod Tokens
+pub mod Normals
+pub mod Operands
