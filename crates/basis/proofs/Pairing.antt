@@ -1,5 +1,5 @@
 -- The second operand of 03 and 04: it is worked out behind the first, and both are joined.
-use mathlib.Core.Path.{_≡_, refl, sym, ap, ap₂, _∙_}
+use mathlib.Core.Path.{_≡_, refl, sym, ap, ap₂, subst, _∙_}
 use Prim.Native.Nat.{ℕ, zero, suc, _+_, _-_, _*_, _≤_, _<_}
 use native.Mathlib.Omega.{arith}
 use native.Mathlib.Nat.{mul-le-mul, mul-le-mul-right, suc-mul, zero-mul, add-mul, not-suc-le-zero, le-of-suc-le-suc}
@@ -20,6 +20,8 @@ use Rattle.model.specs.Basis.{basis}
 use Rattle.model.specs.Rounds.{rounds}
 use Rattle.structure.specs.Layout.{structureAt, standing, barsAt, cells, barCells}
 use Rattle.structure.specs.declared.Shape.{Shape}
+use Rattle.structure.specs.declared.Sets.{Sets}
+use Rattle.structure.specs.Marks.{Marked}
 use Rattle.structure.specs.Laid.{Laid}
 use Rattle.lattice.proofs.Signed as signed
 use Rattle.lattice.specs.Signed.{normal, two, joinedForm}
@@ -32,8 +34,8 @@ use Rattle.modal.specs.Post.{Least}
 use Rattle.cells.proofs.Parts.{put-end}
 use Rattle.modal.proofs.Laws.{part-room}
 use Rattle.token.specs.Signed.{twoToken, joinedBasis, joinedRounds}
-use Rattle.token.specs.Contract.{roundsMost, Ready, Made, Combined}
-use Rattle.pairs.specs.Post.{PairsReady}
+use Rattle.token.specs.Contract.{roundsMost, Given, Ready, Made, Combined}
+use Rattle.pairs.specs.Post.{Bases, PairsReady}
 use Rattle.pairs.proofs.Goods.{standing-good}
 use Rattle.token.proofs.Tokens as tokens
 use Rattle.token.proofs.Normals as normals
@@ -61,7 +63,10 @@ pub record Left (n e c u v l mw mb : ℕ) : Type 0 where
 
 module _ (s b : Bool) (shape : Shape) (q q′ starts values : List ℕ) (w₀ b₀ : List ℕ)
     (r : Ready s shape q starts values (length w₀) (length b₀)) (k : getD q 0 0 ≡ twoToken b) (d : q′ ≡ drop 1 q)
-    (c u v : ℕ) (w bs : List ℕ) (lw : length w ≡ length w₀) (lb : length bs ≡ length b₀) (m : Made s shape q′ starts values c u v w bs) where
+    (sets : Sets) (u v : ℕ) (w bs : List ℕ) (lw : length w ≡ length w₀) (lb : length bs ≡ length b₀) (m : Made s shape q′ starts values sets u v w bs) where
+  abbrev c : ℕ
+  c = sets .count
+
   f₁ : Formula
   f₁ = tokens.behind-two q (r .formula) (r .rest) (r .reads) b k .0
 
@@ -90,7 +95,7 @@ module _ (s b : Bool) (shape : Shape) (q q′ starts values : List ℕ) (w₀ b�
 
   left-done : Done c u v (normal s f₁) (length q′)
   left-done =
-      done-at s shape q′ starts values c u v w bs m (r .computation) (r .laid) f₁ (prefix f₂ ++ r .rest) (d ∙ reads-two) (slims .0)
+      done-at s shape q′ starts values sets u v w bs m (r .computation) (r .laid) f₁ (prefix f₂ ++ r .rest) (d ∙ reads-two) (slims .0)
       (omega (arith, r .short, ap tokens is-two, signed.weigh-two 1 1 1 b f₁ f₂))
 
   sum-held : c + held (normal s f₂) ≤ held (normal s (r .formula))
@@ -135,8 +140,11 @@ module _ (s b : Bool) (shape : Shape) (q q′ starts values : List ℕ) (w₀ b�
       bars-fit = part-room (c * slot) (held (normal s f₂) * slot) bs bars-two;
     }
 
-    module _ (c₂ u₂ v₂ : ℕ) (p pb : List ℕ) (m₂ : Made s shape q₂ starts values c₂ u₂ v₂ p pb)
+    module _ (sets₂ : Sets) (u₂ v₂ : ℕ) (p pb : List ℕ) (m₂ : Made s shape q₂ starts values sets₂ u₂ v₂ p pb)
         (lp : length p ≡ length (take (length w - c * size) (drop (c * size) w))) (lpb : length pb ≡ length (take (length bs - c * slot) (drop (c * slot) bs))) where
+      abbrev c₂ : ℕ
+      c₂ = sets₂ .count
+
       abbrev w₃ : List ℕ
       w₃ = putMid (c * size) (length w - c * size) w p
 
@@ -145,7 +153,7 @@ module _ (s b : Bool) (shape : Shape) (q q′ starts values : List ℕ) (w₀ b�
 
       right-done : Done c₂ u₂ v₂ (normal s f₂) (length q₂)
       right-done =
-          done-at s shape q₂ starts values c₂ u₂ v₂ p pb m₂ (r .computation) (r .laid) f₂ (r .rest) (d₂ ∙ tokens.second q u (prefix f₁) (prefix f₂ ++ r .rest) reads-two used-is) (slims .1)
+          done-at s shape q₂ starts values sets₂ u₂ v₂ p pb m₂ (r .computation) (r .laid) f₂ (r .rest) (d₂ ∙ tokens.second q u (prefix f₁) (prefix f₂ ++ r .rest) reads-two used-is) (slims .1)
           (omega (arith, r .short, ap tokens is-two, signed.weigh-two 1 1 1 b f₁ f₂))
 
       pub right-few : (c₂ ≤ 16) × (u₂ ≤ 192) × (v₂ ≤ roundsMost)
@@ -195,8 +203,32 @@ module _ (s b : Bool) (shape : Shape) (q q′ starts values : List ℕ) (w₀ b�
               m₂ .least (i - c) (omega (arith, ltb-false i c g))
               (sym (getD-append-add (take (c * size) w) p ((i - c) * size) 0) ∙ ap₂ (λ (x : List ℕ) (y : ℕ). getD x y 0) (sym w-is) (sym o) ∙ f)
 
+      -- What stands for whatever two formulas are read.
+      second-reads : (f g : Formula) (rest : List ℕ) → drop 1 q ≡ prefix f ++ (prefix g ++ rest) → q₂ ≡ prefix g ++ rest
+      second-reads f g rest e = d₂ ∙ tokens.second q u (prefix f) (prefix g ++ rest) e (m .passed f (prefix g ++ rest) (d ∙ e))
+
+      module _ (K : Computation) (f g : Formula) (rest : List ℕ) (laid : Given K shape starts values) (e : drop 1 q ≡ prefix f ++ (prefix g ++ rest)) where
+        left-is : standing (shape .n) (full K) c w₃ b₃ ≡ basis K (normal s f)
+        left-is = left-stands K (laid .0) ∙ m .stands K f (prefix g ++ rest) laid (d ∙ e)
+
+        right-is : standing (shape .n) (full K) c₂ (drop (c * size) w₃) (drop (c * slot) b₃) ≡ basis K (normal s g)
+        right-is = right-stands K (laid .0) ∙ m₂ .stands K g rest laid (second-reads f g rest e)
+
+        bases-are : Bases shape sets sets₂ w₃ b₃ K
+        bases-are = record {
+          good-left = standing-good K (laid .0 .valid) (normal s f) _ left-is;
+          good-right = standing-good K (laid .0 .valid) (normal s g) _ right-is;
+          marked-left = subst (λ (X : List Structure). Marked K X (sets .stations)) (sym left-is) (m .marked K f (prefix g ++ rest) laid (d ∙ e));
+          marked-right = subst (λ (X : List Structure). Marked K X (sets₂ .stations)) (sym right-is) (m₂ .marked K g rest laid (second-reads f g rest e));
+        }
+
       module _ (t : Bool) (flag : t ≡ Bool·beq b s) where
-        pub pairs-ready : t ≡ true → PairsReady (shape .n) (shape .e) c c₂ w₃ b₃
+        joined-is : (K : Computation) (f f₃ f₄ : Formula) → f ≡ two b f₃ f₄ → joinedBasis t K (basis K (normal s f₃)) (basis K (normal s f₄)) ≡ basis K (normal s f)
+        joined-is K f f₃ f₄ e =
+            ap (λ (g : Bool). joinedBasis g K (basis K (normal s f₃)) (basis K (normal s f₄))) flag
+            ∙ sym (normals.basis-joined (Bool·beq b s) K (normal s f₃) (normal s f₄)) ∙ ap (basis K) (sym (ap (normal s) e ∙ signed.normal-two s b f₃ f₄))
+
+        pub pairs-ready : t ≡ true → PairsReady shape sets sets₂ w₃ b₃
         unfolding width
         pairs-ready g =
             let pair : normal s (r .formula) ≡ both (normal s f₁) (normal s f₂) = form ∙ ap (λ (x : Bool). joinedForm x (normal s f₁) (normal s f₂)) (sym flag ∙ g) in
@@ -205,10 +237,8 @@ module _ (s b : Bool) (shape : Shape) (q q′ starts values : List ℕ) (w₀ b�
             let tot : c + c₂ + c * c₂ ≤ held (normal s (r .formula)) = omega (arith, held-both (normal s f₁) (normal s f₂) .2, ap held pair, left-done .wide, right-done .wide, prod) in
             let len : length w₃ ≡ length w₀ = same-len-mid (c * size) (length w - c * size) w p lp ∙ lw in
             let lenb : length b₃ ≡ length b₀ = same-len-mid (c * slot) (length bs - c * slot) bs pb lpb ∙ lb in
-            let L : standing (shape .n) (full (r .computation)) c w₃ b₃ ≡ basis (r .computation) (normal s f₁) =
-            left-stands (r .computation) (r .laid .0) ∙ m .stands (r .computation) f₁ (prefix f₂ ++ r .rest) (r .laid) (d ∙ reads-two) in
-            let R : standing (shape .n) (full (r .computation)) c₂ (drop (c * size) w₃) (drop (c * slot) b₃) ≡ basis (r .computation) (normal s f₂) =
-            right-stands (r .computation) (r .laid .0) ∙ m₂ .stands (r .computation) f₂ (r .rest) (r .laid) (d₂ ∙ tokens.second q u (prefix f₁) (prefix f₂ ++ r .rest) reads-two used-is) in
+            let L = left-is (r .computation) f₁ f₂ (r .rest) (r .laid) reads-two in
+            let R = right-is (r .computation) f₁ f₂ (r .rest) (r .laid) reads-two in
             record {
               few = omega (arith, prod, nb .0);
               left = left-done .few;
@@ -233,37 +263,39 @@ module _ (s b : Bool) (shape : Shape) (q q′ starts values : List ℕ) (w₀ b�
                     basis-bars-at (r .computation) (normal s f₂) (structureAt (shape .n) [] [] []) j (omega (arith, ap length (sym R), length-standing (shape .n) (full (r .computation)) c₂ (drop (c * size) w₃) (drop (c * slot) b₃))),
                   ) in
                   omega (arith, nb .1);
+              within-left = m .within;
+              within-right = m₂ .within;
             }
 
-        pub made-two : (c₃ u₃ v₃ : ℕ) (w₄ b₄ : List ℕ) → u₃ ≡ u + 1 + u₂ → Combined t shape c c₂ v v₂ starts w₃ w₄ b₃ b₄ c₃ v₃
-            → Made s shape q starts values c₃ u₃ v₃ w₄ b₄
-        made-two c₃ u₃ v₃ w₄ b₄ eu C = record {
+        pub made-two : (sets₃ : Sets) (u₃ v₃ : ℕ) (w₄ b₄ : List ℕ) → u₃ ≡ u + 1 + u₂ → Combined t shape sets sets₂ v v₂ starts w₃ w₄ b₃ b₄ sets₃ v₃
+            → Made s shape q starts values sets₃ u₃ v₃ w₄ b₄
+        made-two sets₃ u₃ v₃ w₄ b₄ eu C = record {
           passed = λ f rest rd.
               let h = tokens.behind-two q f rest rd b k in
               let x : u ≡ length (prefix (h .0)) = m .passed (h .0) (prefix (h .1) ++ rest) (d ∙ h .3) in
-              let y : u₂ ≡ length (prefix (h .1)) = m₂ .passed (h .1) rest (d₂ ∙ tokens.second q u (prefix (h .0)) (prefix (h .1) ++ rest) (h .3) x) in
+              let y : u₂ ≡ length (prefix (h .1)) = m₂ .passed (h .1) rest (second-reads (h .0) (h .1) rest (h .3)) in
               let z : length (prefix f) ≡ suc (length (prefix (h .0) ++ prefix (h .1))) = ap (λ (g : Formula). length (prefix g)) (h .2) ∙ ap length (tokens.prefix-two b (h .0) (h .1)) in
               omega (arith, eu, length-append (prefix (h .0)) (prefix (h .1)));
           stands = λ K f rest laid rd.
               let h = tokens.behind-two q f rest rd b k in
-              let x : u ≡ length (prefix (h .0)) = m .passed (h .0) (prefix (h .1) ++ rest) (d ∙ h .3) in
-              let L = left-stands K (laid .0) ∙ m .stands K (h .0) (prefix (h .1) ++ rest) laid (d ∙ h .3) in
-              let R = right-stands K (laid .0) ∙ m₂ .stands K (h .1) rest laid (d₂ ∙ tokens.second q u (prefix (h .0)) (prefix (h .1) ++ rest) (h .3) x) in
-              C .joined .stands K (laid .0) (standing-good K (laid .0 .valid) (normal s (h .0)) _ L) (standing-good K (laid .0 .valid) (normal s (h .1)) _ R)
-              ∙ ap₂ (joinedBasis t K) L R
-              ∙ ap (λ (g : Bool). joinedBasis g K (basis K (normal s (h .0))) (basis K (normal s (h .1)))) flag
-              ∙ sym (normals.basis-joined (Bool·beq b s) K (normal s (h .0)) (normal s (h .1))) ∙ ap (basis K) (sym (ap (normal s) (h .2) ∙ signed.normal-two s b (h .0) (h .1)));
+              C .joined .stands K (laid .0) (bases-are K (h .0) (h .1) rest laid (h .3))
+              ∙ ap₂ (joinedBasis t K) (left-is K (h .0) (h .1) rest laid (h .3)) (right-is K (h .0) (h .1) rest laid (h .3))
+              ∙ joined-is K f (h .0) (h .1) (h .2);
           counted = λ K f rest laid rd.
               let h = tokens.behind-two q f rest rd b k in
-              let x : u ≡ length (prefix (h .0)) = m .passed (h .0) (prefix (h .1) ++ rest) (d ∙ h .3) in
-              let rr : drop (u + 1) q ≡ prefix (h .1) ++ rest = tokens.second q u (prefix (h .0)) (prefix (h .1) ++ rest) (h .3) x in
-              let L = left-stands K (laid .0) ∙ m .stands K (h .0) (prefix (h .1) ++ rest) laid (d ∙ h .3) in
-              let R = right-stands K (laid .0) ∙ m₂ .stands K (h .1) rest laid (d₂ ∙ rr) in
               let j : C .joined-rounds ≡ joinedRounds (Bool·beq b s) K (basis K (normal s (h .0))) (basis K (normal s (h .1))) =
-              C .joined .summed K (laid .0) (standing-good K (laid .0 .valid) (normal s (h .0)) _ L) (standing-good K (laid .0 .valid) (normal s (h .1)) _ R) ∙ ap₂ (joinedRounds t K) L R
+              C .joined .summed K (laid .0) (bases-are K (h .0) (h .1) rest laid (h .3))
+              ∙ ap₂ (joinedRounds t K) (left-is K (h .0) (h .1) rest laid (h .3)) (right-is K (h .0) (h .1) rest laid (h .3))
               ∙ ap (λ (g : Bool). joinedRounds g K (basis K (normal s (h .0))) (basis K (normal s (h .1)))) flag in
               let z : rounds K (normal s f) ≡ rounds K (normal s (h .0)) + rounds K (normal s (h .1)) + joinedRounds (Bool·beq b s) K (basis K (normal s (h .0))) (basis K (normal s (h .1))) =
               ap (rounds K) (ap (normal s) (h .2) ∙ signed.normal-two s b (h .0) (h .1)) ∙ normals.rounds-joined (Bool·beq b s) K (normal s (h .0)) (normal s (h .1)) in
-              omega (arith, C .summed, m .counted K (h .0) (prefix (h .1) ++ rest) laid (d ∙ h .3), m₂ .counted K (h .1) rest laid (d₂ ∙ rr));
+              omega (arith, C .summed, m .counted K (h .0) (prefix (h .1) ++ rest) laid (d ∙ h .3), m₂ .counted K (h .1) rest laid (second-reads (h .0) (h .1) rest (h .3)));
           least = C .joined .least;
+          marked = λ K f rest laid rd.
+              let h = tokens.behind-two q f rest rd b k in
+              subst (λ (X : List Structure). Marked K X (sets₃ .stations)) (joined-is K f (h .0) (h .1) (h .2))
+              (C .joined .marked K (basis K (normal s (h .0))) (basis K (normal s (h .1)))
+              (sym (ap length (left-is K (h .0) (h .1) rest laid (h .3))) ∙ length-standing (shape .n) (full K) c w₃ b₃)
+              (m .marked K (h .0) (prefix (h .1) ++ rest) laid (d ∙ h .3)) (m₂ .marked K (h .1) rest laid (second-reads (h .0) (h .1) rest (h .3))));
+          within = C .joined .within;
         }

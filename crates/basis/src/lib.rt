@@ -20,7 +20,7 @@ pub fn basis_true(
     facts: &[u16],
 ) -> Basis
     requires { ⌜ Ready true x (now q) (now starts) (now facts) (length (now ws)) (length (now bs)) ⌝ }
-    ensures { λ r. ⌜ Made true x (now (q .entry)) (now (starts .entry)) (now (facts .entry)) (r .count) (r .used) (r .rounds) (now (ws .exit)) (now (bs .exit)) ⌝ }
+    ensures { λ r. ⌜ Made true x (now (q .entry)) (now (starts .entry)) (now (facts .entry)) (r .sets) (r .used) (r .rounds) (now (ws .exit)) (now (bs .exit)) ⌝ }
 {
     let n = x.n;
     let e = x.e;
@@ -30,8 +30,8 @@ pub fn basis_true(
         3 | 4 => {
             let l = basis_true(after(q, 1), ws, bs, x, starts, facts);
             let m = l.used + 1;
-            let k = l.count * ((e + 1) * n);
-            let b = l.count * (16 * n);
+            let k = l.sets.count * ((e + 1) * n);
+            let b = l.sets.count * (16 * n);
             let r = basis_true(after(q, m), &mut ws[k..], &mut bs[b..], x, starts, facts);
             combine(ws, bs, t == 3, l, r, x, starts)
         }
@@ -57,7 +57,7 @@ pub fn basis_false(
     facts: &[u16],
 ) -> Basis
     requires { ⌜ Ready false x (now q) (now starts) (now facts) (length (now ws)) (length (now bs)) ⌝ }
-    ensures { λ r. ⌜ Made false x (now (q .entry)) (now (starts .entry)) (now (facts .entry)) (r .count) (r .used) (r .rounds) (now (ws .exit)) (now (bs .exit)) ⌝ }
+    ensures { λ r. ⌜ Made false x (now (q .entry)) (now (starts .entry)) (now (facts .entry)) (r .sets) (r .used) (r .rounds) (now (ws .exit)) (now (bs .exit)) ⌝ }
 {
     let n = x.n;
     let e = x.e;
@@ -67,8 +67,8 @@ pub fn basis_false(
         3 | 4 => {
             let l = basis_false(after(q, 1), ws, bs, x, starts, facts);
             let m = l.used + 1;
-            let k = l.count * ((e + 1) * n);
-            let b = l.count * (16 * n);
+            let k = l.sets.count * ((e + 1) * n);
+            let b = l.sets.count * (16 * n);
             let r = basis_false(after(q, m), &mut ws[k..], &mut bs[b..], x, starts, facts);
             combine(ws, bs, t == 4, l, r, x, starts)
         }

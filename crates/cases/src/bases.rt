@@ -59,7 +59,7 @@ fn print_basis(q: &[u8], x: Shape, starts: &[u8], facts: &[u16], ws: &mut [u8], 
     let n = x.n;
     let e = x.e;
     let basis = question::work_out(q, x, starts, facts, ws, bs);
-    let count = basis.count;
+    let count = basis.sets.count;
     trial::print_count(b"structures", count);
     print_structures(ws, bs, count, n, e);
     trial::print_count(b"rounds", basis.rounds as usize);

@@ -2,6 +2,7 @@
 use mathlib.Core.Path.{_≡_, refl, sym, ap, subst, _∙_}
 use Prim.Native.Nat.{ℕ, zero, suc, _+_, _*_, _≤_, _<_}
 use native.Mathlib.Omega.{arith}
+use native.Mathlib.Nat.{le-trans, mul-le-mul}
 use mathlib.Core.List.{List, [], _∷_, map}
 use mathlib.Core.Option.{Option, none, some}
 use lib.ListN.{length, getD, take, drop, List·getD-map}
@@ -99,3 +100,7 @@ module _ (K : Computation) (x : Shape) (starts : List ℕ) (laid : Laid K x star
   pub laid-table : (code first : List ℕ) → ((i : ℕ) → i < x .n → getD code (8 + i) 0 ≡ getD (x .offs) i 0)
       → ((R : ℕ → ℕ → Option Cut) → Small K → stations K ≡ x .n → eventCount K ≡ x .e → Offsets K code → Rows K R (x .n) 0 starts → Slots K R first) → Begun x first K
   laid-table code first c t = laid-begun first (t (row S₀) laid-small (laid .stationed) (laid .counted) (offsets-are x K code (laid .stationed) laid-offs c) start-rows)
+
+-- The rounds of a pair, by the bound that holds for every way to it.
+pub looser : (e r : ℕ) → r ≤ (e + 1) * (e + 2) → r ≤ (e + 1) * (e + 5)
+looser e r h = le-trans h (mul-le-mul {n₁ = e + 1} {m₁ = e + 2} {n₂ = e + 1} {m₂ = e + 5} (omega arith) (omega arith))

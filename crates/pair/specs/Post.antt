@@ -9,8 +9,10 @@ use Rattle.model.specs.Structure.{Structure, row}
 use Rattle.lattice.proofs.Bases.{Good}
 use Rattle.structure.specs.declared.Shape.{Shape}
 use Rattle.structure.specs.Layout.{structureAt, standing, barsAt}
+use Rattle.structure.specs.Marks.{Mark}
 use Rattle.slots.specs.Slots.{Small, Slots}
 use Rattle.rounds.specs.Pair.{Clocks}
+use Rattle.pair.specs.declared.Pair.{Pair}
 
 -- Structure i of those that stand in w and b, and k of them from structure i on.
 abbrev pub structureOf : ℕ → ℕ → Computation → List ℕ → List ℕ → ℕ → Structure
@@ -36,18 +38,22 @@ pub record Begun (x : Shape) (first : List ℕ) (K : Computation) : Type 0 where
   pub offs-are : (j : ℕ) → j < x .n → getD (x .offs) j 0 ≡ total (take j (full K))
   pub clocks-are : Clocks K first
 
--- A pair of structures of a basis, the left one also as a table.
-pub record OnePair (x : Shape) (left first w b : List ℕ) (i j : ℕ) (K : Computation) : Type 0 where
+-- A pair of structures of bases, with their marks; the left one also stands in a table.
+pub record OnePair (x : Shape) (p : Pair) (left first w b : List ℕ) (K : Computation) : Type 0 where
   pub begun : Begun x first K
-  pub good-left : Good K (structureOf (x .n) (x .e) K w b i)
-  pub slots-left : Slots K (row (structureOf (x .n) (x .e) K w b i)) left
-  pub good-right : Good K (structureOf (x .n) (x .e) K w b j)
+  pub good-left : Good K (structureOf (x .n) (x .e) K w b (p .left))
+  pub slots-left : Slots K (row (structureOf (x .n) (x .e) K w b (p .left))) left
+  pub good-right : Good K (structureOf (x .n) (x .e) K w b (p .right))
+  pub mark-left : Mark K (p .leftmark) (structureOf (x .n) (x .e) K w b (p .left))
+  pub mark-right : Mark K (p .rightmark) (structureOf (x .n) (x .e) K w b (p .right))
 
--- Room for a pair of structures i and j at structure o.
-pub record OneReady (n e i j o : ℕ) (w b : List ℕ) : Type 0 where
-  pub left : i < o
-  pub right : j < o
-  pub cells-fit : (o + 1) * ((e + 1) * n) ≤ length w
-  pub bars-fit : (o + 1) * (16 * n) ≤ length b
-  pub small : o ≤ 300
-  pub bars : length (barsAt n 16 (drop (i * (16 * n)) b)) + length (barsAt n 16 (drop (j * (16 * n)) b)) ≤ 16
+-- Room for a pair; marks of the stations that there are.
+pub record OneReady (x : Shape) (p : Pair) (w b : List ℕ) : Type 0 where
+  pub left : p .left < p .to
+  pub right : p .right < p .to
+  pub cells-fit : (p .to + 1) * ((x .e + 1) * x .n) ≤ length w
+  pub bars-fit : (p .to + 1) * (16 * x .n) ≤ length b
+  pub small : p .to ≤ 300
+  pub bars : length (barsAt (x .n) 16 (drop (p .left * (16 * x .n)) b)) + length (barsAt (x .n) 16 (drop (p .right * (16 * x .n)) b)) ≤ 16
+  pub within-left : p .leftmark ≤ x .n
+  pub within-right : p .rightmark ≤ x .n

@@ -17,11 +17,13 @@ pub struct Pairs {
     pub rounds: u32,
 }
 
-// Which structures make a pair, and where it goes: the left, the right and the new one.
+// Which structures make a pair, and where it goes: the left, the right and the new one; and the marks of the first two.
 pub struct Pair {
     pub left: usize,
     pub right: usize,
     pub to: usize,
+    pub leftmark: u8,
+    pub rightmark: u8,
 }
 
 // The intersection of a pair whose left structure stands in a table, and its rounds.
@@ -36,9 +38,9 @@ fn intersect_at(
     requires { ⌜ Shaped x ⌝ }
     requires { ⌜ (p .right < p .to) × (p .to ≤ 300) × ((p .to + 1) * ((x .e + 1) * x .n) ≤ length (now ws)) ⌝ }
     requires { ⌜ (length (now left) ≡ 2048) × (length (now right) ≡ 2048) × (length (now first) ≡ 2048) ⌝ }
-    ensures { λ r. ⌜ ((b : List ℕ) (K : Computation) → OnePair x (now (left .entry)) (now (first .entry)) (now (ws .entry)) b (p .left) (p .right) K
+    ensures { λ r. ⌜ ((b : List ℕ) (K : Computation) → OnePair x p (now (left .entry)) (now (first .entry)) (now (ws .entry)) b K
         → Intersected K (structureOf (x .n) (x .e) K (now (ws .entry)) b (p .left)) (structureOf (x .n) (x .e) K (now (ws .entry)) b (p .right)) (x .n) (drop (p .to * ((x .e + 1) * x .n)) (now (ws .exit))) r) ⌝ }
-    ensures { λ r. ⌜ (r ≤ (x .e + 1) * (x .e + 2)) × (take (p .to * ((x .e + 1) * x .n)) (now (ws .exit)) ≡ take (p .to * ((x .e + 1) * x .n)) (now (ws .entry))) × (length (now (right .exit)) ≡ 2048) ⌝ }
+    ensures { λ r. ⌜ (r ≤ (x .e + 1) * (x .e + 5)) × (take (p .to * ((x .e + 1) * x .n)) (now (ws .exit)) ≡ take (p .to * ((x .e + 1) * x .n)) (now (ws .entry))) × (length (now (right .exit)) ≡ 2048) ⌝ }
 {
     let n = x.n;
     let e = x.e;
@@ -62,9 +64,9 @@ pub fn pair_one(
     x: Shape,
 ) -> Pairs
     requires { ⌜ Shaped x ⌝ }
-    requires { ⌜ OneReady (x .n) (x .e) (p .left) (p .right) (p .to) (now ws) (now bs) ⌝ }
+    requires { ⌜ OneReady x p (now ws) (now bs) ⌝ }
     requires { ⌜ (length (now left) ≡ 2048) × (length (now right) ≡ 2048) × (length (now first) ≡ 2048) ⌝ }
-    ensures { λ r. ⌜ (r .count ≤ 1) × (r .rounds ≤ (x .e + 1) * (x .e + 2)) × Put (x .n) (x .e) (p .to) (r .count) (OnePair x (now (left .entry)) (now (first .entry)) (now (ws .entry)) (now (bs .entry)) (p .left) (p .right))
+    ensures { λ r. ⌜ (r .count ≤ 1) × (r .rounds ≤ (x .e + 1) * (x .e + 5)) × Put (x .n) (x .e) (p .to) (r .count) (OnePair x p (now (left .entry)) (now (first .entry)) (now (ws .entry)) (now (bs .entry)))
         (now (ws .entry)) (now (ws .exit)) (now (bs .entry)) (now (bs .exit))
         (λ K. intersect K (structureOf (x .n) (x .e) K (now (ws .entry)) (now (bs .entry)) (p .left)) (structureOf (x .n) (x .e) K (now (ws .entry)) (now (bs .entry)) (p .right)))
         (λ K. roundsOfPair K (structureOf (x .n) (x .e) K (now (ws .entry)) (now (bs .entry)) (p .left)) (structureOf (x .n) (x .e) K (now (ws .entry)) (now (bs .entry)) (p .right))) (r .rounds) ⌝ }

@@ -22,10 +22,14 @@ use Rattle.structure.proofs.Standing.{structure-same, standing-same, standing-a
 use Rattle.modal.specs.Post.{Least}
 use Rattle.modal.proofs.Laws.{each-append}
 use Rattle.structure.specs.declared.Shape.{Shape}
+use Rattle.structure.specs.declared.Sets.{Sets}
+use Rattle.structure.specs.Marks.{Mark, Marked}
+use Rattle.structure.proofs.Marks.{standing-mark}
 use Rattle.slots.specs.Slots.{Slots}
 use Rattle.lattice.proofs.Lists.{All}
 use Rattle.lattice.proofs.Bases.{Good}
 use Rattle.pair.specs.Post.{structureOf, standingFrom, Put, OnePair}
+use Rattle.pairs.specs.declared.Row.{Row}
 use Rattle.pairs.specs.Post.{RowPair, AllPairs}
 use Rattle.pairs.proofs.Goods.{standing-each}
 
@@ -214,33 +218,44 @@ module _ (n e : ℕ) where
 -- What stood before structure o still does.
 module _ (x : Shape) (z : 0 < x .n) (first w w₁ b b₁ : List ℕ) (o : ℕ) (ew : take (o * ((x .e + 1) * x .n)) w₁ ≡ take (o * ((x .e + 1) * x .n)) w) (eb : take (o * (16 * x .n)) b₁ ≡ take (o * (16 * x .n)) b) where
   -- Structure j of those that stand from structure l on.
-  good-at : (K : Computation) → eventCount K ≡ x .e → (l r j : ℕ) → j < r → All (Good K) (standingFrom (x .n) (x .e) K w b l r) → Good K (structureOf (x .n) (x .e) K w b (l + j))
-  good-at K counted l r j h a =
-      let c = cells-is (x .n) (x .e) z K counted in
-      let v : List ℕ = drop (l * ((x .e + 1) * x .n)) w in
-      let d : List ℕ = drop (l * (16 * x .n)) b in
-      let t = standing-each (Good K) (x .n) (full K) r v d a j h in
-      subst (Good K) (ap (λ (m : ℕ). structureAt (x .n) (full K) (drop (j * m) v) (drop (j * (16 * x .n)) d)) c ∙ at-sum (x .n) (x .e) z K counted l j w b) t
+  module _ (K : Computation) (counted : eventCount K ≡ x .e) (l r j : ℕ) where
+    from-at : structureAt (x .n) (full K) (drop (j * cells (x .n) (full K)) (drop (l * ((x .e + 1) * x .n)) w)) (drop (j * barCells (x .n)) (drop (l * (16 * x .n)) b)) ≡ structureOf (x .n) (x .e) K w b (l + j)
+    from-at =
+        ap (λ (m : ℕ). structureAt (x .n) (full K) (drop (j * m) (drop (l * ((x .e + 1) * x .n)) w)) (drop (j * (16 * x .n)) (drop (l * (16 * x .n)) b))) (cells-is (x .n) (x .e) z K counted)
+        ∙ at-sum (x .n) (x .e) z K counted l j w b
 
-  pub row-knows : (left : List ℕ) (i l r j : ℕ) → j < r → i < o → l + r ≤ o
-      → ((K : Computation) → RowPair x first w b i l r K → Slots K (row (structureOf (x .n) (x .e) K w b i)) left)
-      → (K : Computation) → RowPair x first w b i l r K → OnePair x left first w₁ b₁ i (l + j) K
-  row-knows left i l r j h hi hr s K g =
+    good-at : j < r → All (Good K) (standingFrom (x .n) (x .e) K w b l r) → Good K (structureOf (x .n) (x .e) K w b (l + j))
+    good-at h a = subst (Good K) from-at (standing-each (Good K) (x .n) (full K) r (drop (l * ((x .e + 1) * x .n)) w) (drop (l * (16 * x .n)) b) a j h)
+
+    mark-at : (marks : List ℕ) → j < r → Marked K (standingFrom (x .n) (x .e) K w b l r) marks → Mark K (getD marks j 0) (structureOf (x .n) (x .e) K w b (l + j))
+    mark-at marks h a = subst (Mark K (getD marks j 0)) from-at (standing-mark K (x .n) (full K) r (drop (l * ((x .e + 1) * x .n)) w) (drop (l * (16 * x .n)) b) marks a j h)
+
+  pub row-knows : (q : Row) (left : List ℕ) (j c : ℕ) → j < q .many → q .left < o → q .right + q .many ≤ o
+      → ((K : Computation) → RowPair x q first w b K → Slots K (row (structureOf (x .n) (x .e) K w b (q .left))) left)
+      → (K : Computation) → RowPair x q first w b K → OnePair x (record { left = q .left; right = q .right + j; to = c; leftmark = q .leftmark; rightmark = getD (q .marks) j 0 }) left first w₁ b₁ K
+  row-knows q left j c h hi hr s K g =
       let kept = structure-kept (x .n) (x .e) z K (g .begun .counted) o w₁ w b₁ b ew eb in
       record {
         begun = g .begun;
-        good-left = subst (Good K) (sym (kept i hi)) (g .good-left);
-        slots-left = subst (λ (S : Structure). Slots K (row S) left) (sym (kept i hi)) (s K g);
-        good-right = subst (Good K) (sym (kept (l + j) (omega arith))) (good-at K (g .begun .counted) l r j h (g .good-right));
+        good-left = subst (Good K) (sym (kept (q .left) hi)) (g .good-left);
+        slots-left = subst (λ (S : Structure). Slots K (row S) left) (sym (kept (q .left) hi)) (s K g);
+        good-right = subst (Good K) (sym (kept (q .right + j) (omega arith))) (good-at K (g .begun .counted) (q .right) (q .many) j h (g .good-right));
+        mark-left = subst (Mark K (q .leftmark)) (sym (kept (q .left) hi)) (g .mark-left);
+        mark-right = subst (Mark K (getD (q .marks) j 0)) (sym (kept (q .right + j) (omega arith))) (mark-at K (g .begun .counted) (q .right) (q .many) j (q .marks) h (g .marked-right));
       }
 
-  pub all-knows : (i l r : ℕ) → i < l → l + r ≤ o → (K : Computation) → AllPairs x first w b l r K → RowPair x first w₁ b₁ i l r K
-  all-knows i l r h hr K g =
-      let c = cells-is (x .n) (x .e) z K (g .begun .counted) in
-      let t = standing-each (Good K) (x .n) (full K) l w b (g .good-left) i h in
-      let here : Good K (structureOf (x .n) (x .e) K w b i) = subst (λ (m : ℕ). Good K (structureAt (x .n) (full K) (drop (i * m) w) (drop (i * (16 * x .n)) b))) c t in
+  pub all-knows : (l r : Sets) (i c : ℕ) → i < l .count → l .count + r .count ≤ o → (K : Computation) → AllPairs x l r first w b K
+      → RowPair x (record { left = i; right = l .count; many = r .count; to = c; leftmark = getD (l .stations) i 0; marks = r .stations }) first w₁ b₁ K
+  all-knows l r i c h hr K g =
+      let cells-are = cells-is (x .n) (x .e) z K (g .begun .counted) in
+      let kept = structure-kept (x .n) (x .e) z K (g .begun .counted) o w₁ w b₁ b ew eb i (omega arith) in
+      let from = from-kept (x .n) (x .e) z K (g .begun .counted) o w₁ w b₁ b ew eb (l .count) (r .count) hr in
+      let good = standing-each (Good K) (x .n) (full K) (l .count) w b (g .bases .good-left) i h in
+      let mark = standing-mark K (x .n) (full K) (l .count) w b (l .stations) (g .bases .marked-left) i h in
       record {
         begun = g .begun;
-        good-left = subst (Good K) (sym (structure-kept (x .n) (x .e) z K (g .begun .counted) o w₁ w b₁ b ew eb i (omega arith))) here;
-        good-right = subst (All (Good K)) (sym (from-kept (x .n) (x .e) z K (g .begun .counted) o w₁ w b₁ b ew eb l r hr)) (g .good-right);
+        good-left = subst (Good K) (sym kept) (subst (λ (m : ℕ). Good K (structureAt (x .n) (full K) (drop (i * m) w) (drop (i * (16 * x .n)) b))) cells-are good);
+        good-right = subst (All (Good K)) (sym from) (g .bases .good-right);
+        mark-left = subst (Mark K (getD (l .stations) i 0)) (sym kept) (subst (λ (m : ℕ). Mark K (getD (l .stations) i 0) (structureAt (x .n) (full K) (drop (i * m) w) (drop (i * (16 * x .n)) b))) cells-are mark);
+        marked-right = subst (λ (L : List Structure). Marked K L (r .stations)) (sym from) (g .bases .marked-right);
       }

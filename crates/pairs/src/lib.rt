@@ -1,6 +1,7 @@
 // The step for "and": the pairs of two bases that stand one behind the other.
 use pair::Pair;
 use pair::Pairs;
+use structure::Sets;
 use structure::Shape;
 ghost use mathlib.Core.Path.{_≡_};
 ghost use Prim.Native.Nat.{_+_, _*_, _≤_};
@@ -14,12 +15,14 @@ ghost use Rattle.structure.specs.Shaped.{Shaped};
 ghost use Rattle.pair.specs.Post.{structureOf, standingFrom, Put};
 ghost use Rattle.pairs.specs.Post.{RowPair, AllPairs, RowReady, PairsReady, Paired};
 
-// A row of pairs and where it goes: one left structure with `many` from the right one on, and the first new one.
+// A row of pairs and where it goes: one left structure with `many` from the right one on, and the first new one; and the marks of the first two.
 pub struct Row {
     pub left: usize,
     pub right: usize,
     pub many: usize,
     pub to: usize,
+    pub leftmark: u8,
+    pub marks: [u8; 16],
 }
 
 // A row of pairs, left to right: those kept go one behind the other.
@@ -33,9 +36,9 @@ fn pair_row(
     x: Shape,
 ) -> Pairs
     requires { ⌜ Shaped x ⌝ }
-    requires { ⌜ RowReady (x .n) (x .e) (q .left) (q .right) (q .many) (q .to) (now ws) (now bs) ⌝ }
+    requires { ⌜ RowReady x q (now ws) (now bs) ⌝ }
     requires { ⌜ (length (now left) ≡ 2048) × (length (now right) ≡ 2048) × (length (now first) ≡ 2048) ⌝ }
-    ensures { λ p. ⌜ (p .count ≤ q .many) × (p .rounds ≤ q .many * ((x .e + 1) * (x .e + 2))) × Put (x .n) (x .e) (q .to) (p .count) (RowPair x (now (first .entry)) (now (ws .entry)) (now (bs .entry)) (q .left) (q .right) (q .many))
+    ensures { λ p. ⌜ (p .count ≤ q .many) × (p .rounds ≤ q .many * ((x .e + 1) * (x .e + 5))) × Put (x .n) (x .e) (q .to) (p .count) (RowPair x q (now (first .entry)) (now (ws .entry)) (now (bs .entry)))
         (now (ws .entry)) (now (ws .exit)) (now (bs .entry)) (now (bs .exit))
         (λ K. each (intersect K (structureOf (x .n) (x .e) K (now (ws .entry)) (now (bs .entry)) (q .left))) (standingFrom (x .n) (x .e) K (now (ws .entry)) (now (bs .entry)) (q .right) (q .many)))
         (λ K. sum (roundsOfPair K (structureOf (x .n) (x .e) K (now (ws .entry)) (now (bs .entry)) (q .left))) (standingFrom (x .n) (x .e) K (now (ws .entry)) (now (bs .entry)) (q .right) (q .many))) (p .rounds) ⌝ }
@@ -48,6 +51,7 @@ fn pair_row(
     let l = q.right;
     let many = q.many;
     let o = q.to;
+    let marks = q.marks;
     let code = slots::coding(n, &offs);
     slots::put_rows(left, ws, i * ((e + 1) * n), n, e, &code);
     let mut c = 0;
@@ -58,6 +62,8 @@ fn pair_row(
             left: i,
             right: l + j,
             to: o + c,
+            leftmark: q.leftmark,
+            rightmark: marks[j],
         };
         let r = pair::pair_one(ws, bs, left, right, first, p, x);
         c += r.count;
@@ -71,34 +77,32 @@ fn pair_row(
 }
 
 // All pairs of the l structures at the front and the r behind them, left outer: those kept go behind both.
-fn pair_rows(
-    ws: &mut [u8],
-    bs: &mut [u8],
-    first: &[u8; 2048],
-    l: usize,
-    r: usize,
-    x: Shape,
-) -> Pairs
+fn pair_rows(ws: &mut [u8], bs: &mut [u8], first: &[u8; 2048], l: Sets, r: Sets, x: Shape) -> Pairs
     requires { ⌜ Shaped x ⌝ }
-    requires { ⌜ PairsReady (x .n) (x .e) l r (now ws) (now bs) ⌝ }
+    requires { ⌜ PairsReady x l r (now ws) (now bs) ⌝ }
     requires { ⌜ length (now first) ≡ 2048 ⌝ }
-    ensures { λ p. ⌜ (p .count ≤ l * r) × (p .rounds ≤ l * r * ((x .e + 1) * (x .e + 2))) × Put (x .n) (x .e) (l + r) (p .count) (AllPairs x (now (first .entry)) (now (ws .entry)) (now (bs .entry)) l r)
+    ensures { λ p. ⌜ (p .count ≤ l .count * r .count) × (p .rounds ≤ l .count * r .count * ((x .e + 1) * (x .e + 5))) × Put (x .n) (x .e) (l .count + r .count) (p .count) (AllPairs x l r (now (first .entry)) (now (ws .entry)) (now (bs .entry)))
         (now (ws .entry)) (now (ws .exit)) (now (bs .entry)) (now (bs .exit))
-        (λ K. each (λ S. each (intersect K S) (standingFrom (x .n) (x .e) K (now (ws .entry)) (now (bs .entry)) l r)) (standing (x .n) (full K) l (now (ws .entry)) (now (bs .entry))))
-        (λ K. sum (λ S. sum (roundsOfPair K S) (standingFrom (x .n) (x .e) K (now (ws .entry)) (now (bs .entry)) l r)) (standing (x .n) (full K) l (now (ws .entry)) (now (bs .entry)))) (p .rounds) ⌝ }
+        (λ K. each (λ S. each (intersect K S) (standingFrom (x .n) (x .e) K (now (ws .entry)) (now (bs .entry)) (l .count) (r .count))) (standing (x .n) (full K) (l .count) (now (ws .entry)) (now (bs .entry))))
+        (λ K. sum (λ S. sum (roundsOfPair K S) (standingFrom (x .n) (x .e) K (now (ws .entry)) (now (bs .entry)) (l .count) (r .count))) (standing (x .n) (full K) (l .count) (now (ws .entry)) (now (bs .entry)))) (p .rounds) ⌝ }
 {
+    let many = l.count;
+    let lefts = l.stations;
+    let rights = r.stations;
+    let o = many + r.count;
     let mut left = [0u8; 2048];
     let mut right = [0u8; 2048];
-    let o = l + r;
     let mut c = 0;
     let mut rounds: u32 = 0;
     let mut i = 0;
-    while i < l {
+    while i < many {
         let q = Row {
             left: i,
-            right: l,
-            many: r,
+            right: many,
+            many: r.count,
             to: o + c,
+            leftmark: lefts[i],
+            marks: rights,
         };
         let p = pair_row(ws, bs, &mut left, &mut right, first, q, x);
         c += p.count;
@@ -112,10 +116,10 @@ fn pair_rows(
 }
 
 // The pairs of the l structures at the front and the r behind them, moved to the front.
-pub fn pair_all(ws: &mut [u8], bs: &mut [u8], l: usize, r: usize, x: Shape, starts: &[u8]) -> Pairs
+pub fn pair_all(ws: &mut [u8], bs: &mut [u8], l: Sets, r: Sets, x: Shape, starts: &[u8]) -> Pairs
     requires { ⌜ Shaped x ⌝ }
     requires { ⌜ (x .e + 1) * x .n ≤ length (now starts) ⌝ }
-    requires { ⌜ PairsReady (x .n) (x .e) l r (now ws) (now bs) ⌝ }
+    requires { ⌜ PairsReady x l r (now ws) (now bs) ⌝ }
     ensures { λ p. ⌜ Paired x l r (now (starts .entry)) (now (ws .entry)) (now (ws .exit)) (now (bs .entry)) (now (bs .exit)) (p .count) (p .rounds) ⌝ }
 {
     let n = x.n;
@@ -126,7 +130,7 @@ pub fn pair_all(ws: &mut [u8], bs: &mut [u8], l: usize, r: usize, x: Shape, star
     slots::put_rows(&mut first, starts, 0, n, e, &code);
     let p = pair_rows(ws, bs, &first, l, r, x);
     let c = p.count;
-    let o = l + r;
+    let o = l.count + r.count;
     let size = (e + 1) * n;
     let slot = 16 * n;
     cells::shift(ws, o * size, 0, c * size);

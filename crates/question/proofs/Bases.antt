@@ -16,6 +16,7 @@ use Rattle.lattice.proofs.Size.{basis-width, narrow-to}
 use Rattle.lattice.proofs.Held.{fits-to, width-held, barspace-fits}
 use Rattle.structure.specs.Layout.{standing}
 use Rattle.structure.specs.declared.Shape.{Shape}
+use Rattle.structure.specs.declared.Sets.{Sets}
 use Rattle.structure.proofs.Standing.{length-standing}
 use Rattle.token.specs.Contract.{Ready, Made}
 use Rattle.listing.specs.Stands.{Stands}
@@ -44,7 +45,10 @@ module _ {K : Computation} {f : Formula} {q : List ℕ} {shape : Shape} {starts 
 
   -- THE BASIS
 
-  module _ {count used sum : ℕ} {ws bs : List ℕ} (w : Made true shape q starts values count used sum ws bs) where
+  module _ {sets : Sets} {used sum : ℕ} {ws bs : List ℕ} (w : Made true shape q starts values sets used sum ws bs) where
+    abbrev count : ℕ
+    count = sets .count
+
     is-basis : standing (shape .n) (full K) count ws bs ≡ basis K (asTrue f)
     is-basis = w .stands K f [] (g .laid) spelt
 

@@ -22,23 +22,23 @@ pub fn work_out(
     facts: &[u16],
     ws: &mut [u8],
     bs: &mut [u8],
-) -> basis::Basis
+) -> token::Basis
     requires { ⌜ ((K : Computation) × (f : Formula) × Question K f (now q) x (now starts) (now facts) × (cellsHeld f x ≤ length (now ws))) ⌝ }
     requires { ⌜ barspaceSize ≤ length (now bs) ⌝ }
-    ensures { λ r. ⌜ ((K : Computation) (f : Formula) → Question K f (now (q .entry)) x (now (starts .entry)) (now (facts .entry)) → Worked K f x (r .count) (r .rounds) (now (ws .exit)) (now (bs .exit))) ⌝ }
+    ensures { λ r. ⌜ ((K : Computation) (f : Formula) → Question K f (now (q .entry)) x (now (starts .entry)) (now (facts .entry)) → Worked K f x (r .sets .count) (r .rounds) (now (ws .exit)) (now (bs .exit))) ⌝ }
 {
     basis::basis_true(q, ws, bs, x, starts, facts)
 }
 
 // Is the question whose basis was worked out true at a cut of n counts?
-pub fn belongs(ws: &[u8], bs: &[u8], basis: basis::Basis, x: Shape, cut: &[u8]) -> bool
-    requires { ⌜ ((K : Computation) × (f : Formula) × Worked K f x (basis .count) (basis .rounds) (now ws) (now bs)) ⌝ }
+pub fn belongs(ws: &[u8], bs: &[u8], basis: token::Basis, x: Shape, cut: &[u8]) -> bool
+    requires { ⌜ ((K : Computation) × (f : Formula) × Worked K f x (basis .sets .count) (basis .rounds) (now ws) (now bs)) ⌝ }
     requires { ⌜ length (now cut) ≡ x .n ⌝ }
-    ensures { λ r. ⌜ ((K : Computation) (f : Formula) → Worked K f x (basis .count) (basis .rounds) (now (ws .entry)) (now (bs .entry)) → r ≡ trueAt K f (now (cut .entry))) ⌝ }
+    ensures { λ r. ⌜ ((K : Computation) (f : Formula) → Worked K f x (basis .sets .count) (basis .rounds) (now (ws .entry)) (now (bs .entry)) → r ≡ trueAt K f (now (cut .entry))) ⌝ }
 {
     let n = x.n;
     let at = cells::cut_at(cut, 0, n);
-    listing::belongs_any(ws, bs, basis.count, x, &at)
+    listing::belongs_any(ws, bs, basis.sets.count, x, &at)
 }
 
 // The answer's line at the front of `out`; hands back its length.
@@ -57,7 +57,7 @@ pub fn put_line(
 {
     let basis = work_out(q, x, starts, facts, ws, bs);
     let mut cuts = [0u8; Log::CUTS];
-    let listed = listing::list(ws, bs, basis.count, x, basis.rounds, &mut cuts);
+    let listed = listing::list(ws, bs, basis.sets.count, x, basis.rounds, &mut cuts);
     line::put_answer(listed.start, &cuts, listed.count, x.n, listed.rounds, out)
 }
 

@@ -6,3 +6,4 @@ pub mod Joining
 pub mod Bars
 pub mod Listed
 pub mod Standing
+pub mod Marks

@@ -23,6 +23,12 @@ pub struct Shape {
     pub offs: [u8; 8],
 }
 
+// Structures one behind the other: how many, and for each the station by whose events alone its set raises cuts, plus 1, or 0 where that is not said.
+pub struct Sets {
+    pub count: usize,
+    pub stations: [u8; 16],
+}
+
 // The row of the last event that a cut has of station j is joined; none is where the first byte comes to 255.
 fn add_station(ws: &[u8], at: usize, x: Shape, j: usize, count: u8, acc: &mut [u8])
     requires { ⌜ Shaped x ⌝ }

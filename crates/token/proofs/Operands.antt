@@ -13,7 +13,7 @@ use Rattle.model.specs.Formula.Formula.{not}
 use Rattle.model.specs.Computation.{Computation, full}
 use Rattle.model.specs.Rules.{Normal}
 use Rattle.model.specs.Size.{width, held, narrow}
-use Rattle.model.specs.Structure.{build}
+use Rattle.model.specs.Structure.{Structure, build}
 use Rattle.model.specs.Basis.{basis}
 use Rattle.model.specs.Rounds.{rounds}
 use Rattle.structure.specs.Layout.{standing, barCells}
@@ -28,8 +28,11 @@ use Rattle.steps.proofs.Built.{first-row, start-there}
 use Rattle.structure.proofs.Places.{cells-are}
 use Rattle.structure.proofs.Standing.{standing-add, length-standing}
 use Rattle.modal.specs.Post.{Least, Possible, Impossible}
-use Rattle.token.specs.Signed.{twoToken, modalToken, liftedBasis}
+use Rattle.token.specs.Signed.{twoToken, modalToken, joinedBasis, liftedBasis}
 use Rattle.structure.specs.declared.Shape.{Shape}
+use Rattle.structure.specs.declared.Sets.{Sets}
+use Rattle.structure.specs.Marks.{Marked, Within}
+use Rattle.structure.proofs.Marks.{none-marked, none-within}
 use Rattle.token.specs.Contract.{roundsMost, Given, Ready, Made, Combined, Lifted}
 use Rattle.pairs.specs.Post.{Paired}
 use Rattle.token.proofs.Tokens as tokens
@@ -37,28 +40,53 @@ use Rattle.token.proofs.Normals as normals
 
 -- STEPS
 
-pub lifted-wide : (shape : Shape) (k c : ℕ) (starts w w₂ b b₂ : List ℕ) (t : Bool) → t ≡ true → c ≡ k → Possible shape k starts w w₂ b b₂ → Lifted t shape k starts w w₂ b b₂ c
-lifted-wide shape k c starts w w₂ b b₂ t f g d = rw (f, g) (record { stands = d .stands; least = d .least })
+module _ (shape : Shape) (k : ℕ) (sets : Sets) (starts w w₂ b b₂ : List ℕ) (t : Bool) (u : sets .stations ≡ replicate 16 0) where
+  pub lifted-wide : t ≡ true → sets .count ≡ k → Possible shape k starts w w₂ b b₂ → Lifted t shape k starts w w₂ b b₂ sets
+  lifted-wide f g d = rw f (record {
+    stands = λ K h. ap (λ (x : ℕ). standing (shape .n) (full K) x w₂ b₂) g ∙ d .stands K h;
+    least = subst (λ (x : ℕ). Least ((shape .e + 1) * shape .n) x w₂) (sym g) (d .least);
+    unmarked = u;
+  })
 
-pub lifted-barred : (shape : Shape) (k c : ℕ) (starts w w₂ b b₂ : List ℕ) (t : Bool) → t ≡ false → Impossible shape k c starts w w₂ b b₂ → Lifted t shape k starts w w₂ b b₂ c
-lifted-barred shape k c starts w w₂ b b₂ t f d = rw f (record { stands = d .stands; least = d .least })
+  pub lifted-barred : (c : ℕ) → t ≡ false → sets .count ≡ c → Impossible shape k c starts w w₂ b b₂ → Lifted t shape k starts w w₂ b b₂ sets
+  lifted-barred c f g d = rw f (record {
+    stands = λ K h. ap (λ (x : ℕ). standing (shape .n) (full K) x w₂ b₂) g ∙ d .stands K h;
+    least = subst (λ (x : ℕ). Least ((shape .e + 1) * shape .n) x w₂) (sym g) (d .least);
+    unmarked = u;
+  })
 
-pub combined-pairs : (shape : Shape) (l r u v : ℕ) (starts w w₂ b b₂ : List ℕ) (c j sum : ℕ) (t : Bool) → t ≡ true → sum ≡ u + v + j
-    → Paired shape l r starts w w₂ b b₂ c j → Combined t shape l r u v starts w w₂ b b₂ c sum
-combined-pairs shape l r u v starts w w₂ b b₂ c j sum t f g d = rw f (record { joined-rounds = j; joined = record { stands = d .stands; summed = d .summed; least = d .least }; summed = g })
+module _ (shape : Shape) (l r : Sets) (u v : ℕ) (starts w w₂ b b₂ : List ℕ) (sets : Sets) (sum : ℕ) (t : Bool) where
+  -- The pairs: none is marked.
+  pub combined-pairs : (c j : ℕ) → t ≡ true → sets .count ≡ c → sets .stations ≡ replicate 16 0 → sum ≡ u + v + j → Paired shape l r starts w w₂ b b₂ c j → Combined t shape l r u v starts w w₂ b b₂ sets sum
+  combined-pairs c j f g z e d = rw f (record {
+    joined-rounds = j;
+    joined = record {
+      stands = λ K laid a. ap (λ (x : ℕ). standing (shape .n) (full K) x w₂ b₂) g ∙ d .stands K laid a;
+      summed = d .summed;
+      least = subst (λ (x : ℕ). Least ((shape .e + 1) * shape .n) x w₂) (sym g) (d .least);
+      marked = λ K L R h p q. subst (Marked K (joinedBasis true K L R)) (sym z) (none-marked K (joinedBasis true K L R) 16);
+      within = subst (Within (shape .n)) (sym z) (none-within (shape .n) 16);
+    };
+    summed = e;
+  })
 
 -- One basis behind the other: nothing is moved.
-pub combined-all : (shape : Shape) (l r u v : ℕ) (starts w b : List ℕ) (c sum : ℕ) (t : Bool) → t ≡ false → c ≡ l + r → sum ≡ u + v
-    → Least ((shape .e + 1) * shape .n) (l + r) w → Combined t shape l r u v starts w w b b c sum
-combined-all shape l r u v starts w b c sum t f g h least = rw (f, g) (record {
+pub combined-all : (shape : Shape) (l r : Sets) (u v : ℕ) (starts w b : List ℕ) (sets : Sets) (sum : ℕ) (t : Bool) → t ≡ false → sets .count ≡ l .count + r .count → sum ≡ u + v
+    → Least ((shape .e + 1) * shape .n) (l .count + r .count) w → Within (shape .n) (sets .stations)
+    → ((K : Computation) (L R : List Structure) → length L ≡ l .count → Marked K L (l .stations) → Marked K R (r .stations) → Marked K (L ++ R) (sets .stations))
+    → Combined t shape l r u v starts w w b b sets sum
+combined-all shape l r u v starts w b sets sum t f g h least within marked = rw f (record {
   joined-rounds = 0;
   joined = record {
-    stands = λ K laid gl gr.
+    stands = λ K laid a.
         let n : ℕ = shape .n in
         let x = cells-are n (shape .e) (full K) (laid .counted) in
-        standing-add n (full K) l r w b ∙ ap (λ (y : ℕ). standing n (full K) l w b ++ standing n (full K) r (drop (l * y) w) (drop (l * barCells n) b)) x;
-    summed = λ K laid gl gr. refl;
-    least = least;
+        ap (λ (y : ℕ). standing n (full K) y w b) g ∙ standing-add n (full K) (l .count) (r .count) w b
+        ∙ ap (λ (y : ℕ). standing n (full K) (l .count) w b ++ standing n (full K) (r .count) (drop (l .count * y) w) (drop (l .count * barCells n) b)) x;
+    summed = λ K laid a. refl;
+    least = subst (λ (x : ℕ). Least ((shape .e + 1) * shape .n) x w) (sym g) least;
+    marked = marked;
+    within = within;
   };
   summed = omega arith;
 })
@@ -174,7 +202,10 @@ pub record Done (count used sum : ℕ) (p : Normal) (l : ℕ) : Type 0 where
   pub small : sum ≤ roundsMost
   pub within : used ≤ l
 
-module _ (s : Bool) (shape : Shape) (q starts values : List ℕ) (c u v : ℕ) (w b : List ℕ) (d : Made s shape q starts values c u v w b) where
+module _ (s : Bool) (shape : Shape) (q starts values : List ℕ) (sets : Sets) (u v : ℕ) (w b : List ℕ) (d : Made s shape q starts values sets u v w b) where
+  abbrev c : ℕ
+  c = sets .count
+
   pub done-at : (K : Computation) → Given K shape starts values → (f : Formula) (rest : List ℕ) → q ≡ prefix f ++ rest → narrow (normal s f) ≡ true → tokens f ≤ 32
       → Done c u v (normal s f) (length q)
   done-at K laid f rest reads slim short =
@@ -192,20 +223,25 @@ module _ (s : Bool) (shape : Shape) (q starts values : List ℕ) (c u v : ℕ) (
   done mw mb r = done-at (r .computation) (r .laid) (r .formula) (r .rest) (r .reads) (r .slim) (r .short)
 
 module _ (s : Bool) (shape : Shape) (q starts values : List ℕ) where
-  pub made-atom : (c u : ℕ) (w b : List ℕ) → (1 < getD q 0 0 → getD q 0 0 < 7 → ⊥) → c ≤ 1 → (0 < c → getD w 0 0 ≡ 255 → ⊥)
+  pub made-atom : (sets : Sets) (u : ℕ) (w b : List ℕ) → (1 < getD q 0 0 → getD q 0 0 < 7 → ⊥) → sets .count ≤ 1 → (0 < sets .count → getD w 0 0 ≡ 255 → ⊥)
       → ((a : Atom) (rest : List ℕ) → q ≡ atomBytes a ++ rest → u ≡ length (atomBytes a))
-      → ((K : Computation) (a : Atom) (rest : List ℕ) → Given K shape starts values → q ≡ atomBytes a ++ rest → standing (shape .n) (full K) c w b ≡ build K (raiseAtom K s a) [])
-      → Made s shape q starts values c u 0 w b
+      → ((K : Computation) (a : Atom) (rest : List ℕ) → Given K shape starts values → q ≡ atomBytes a ++ rest → standing (shape .n) (full K) (sets .count) w b ≡ build K (raiseAtom K s a) [])
+      → ((K : Computation) (a : Atom) (rest : List ℕ) → Given K shape starts values → q ≡ atomBytes a ++ rest → Marked K (build K (raiseAtom K s a) []) (sets .stations)) → Within (shape .n) (sets .stations)
+      → Made s shape q starts values sets u 0 w b
   unfolding prefix
-  made-atom c u w b k h first long stands = record {
+  made-atom sets u w b k h first long stands marked within = record {
     passed = λ f rest r. let g = tokens.at-atom q f rest r k in rw (g .1) (long (g .0) rest (g .2));
     stands = λ K f rest laid r. let g = tokens.at-atom q f rest r k in rw (g .1) (stands K (g .0) rest laid (g .2) ∙ normals.basis-atom s K (g .0));
     counted = λ K f rest laid r. let g = tokens.at-atom q f rest r k in rw (g .1) (normals.rounds-atom s K (g .0));
     least = λ i g f. first (omega arith) (ap (λ (x : ℕ). getD w x 0) (sym (ap (λ (x : ℕ). x * ((shape .e + 1) * shape .n)) (let o : i ≡ 0 = omega arith in o) ∙ zero-mul ((shape .e + 1) * shape .n))) ∙ f);
+    marked = λ K f rest laid r.
+        let g = tokens.at-atom q f rest r k in
+        subst (λ (L : List Structure). Marked K L (sets .stations)) (normals.basis-atom s K (g .0) ∙ ap (λ (x : Formula). basis K (normal s x)) (sym (g .1))) (marked K (g .0) rest laid (g .2));
+    within = within;
   }
 
   module _ (q′ : List ℕ) (d : q′ ≡ drop 1 q) where
-    pub made-not : (c u v c₂ u₂ v₂ : ℕ) (w b : List ℕ) → getD q 0 0 ≡ 2 → c₂ ≡ c → u₂ ≡ u + 1 → v₂ ≡ v
+    pub made-not : (c : Sets) (u v : ℕ) (c₂ : Sets) (u₂ v₂ : ℕ) (w b : List ℕ) → getD q 0 0 ≡ 2 → c₂ ≡ c → u₂ ≡ u + 1 → v₂ ≡ v
         → Made (flip s) shape q′ starts values c u v w b → Made s shape q starts values c₂ u₂ v₂ w b
     unfolding prefix
     made-not c u v c₂ u₂ v₂ w b k ec eu ev m = rw (ec, eu, ev) (record {
@@ -213,10 +249,14 @@ module _ (s : Bool) (shape : Shape) (q starts values : List ℕ) where
       stands = λ K f rest laid r. let h = tokens.behind-not q f rest r k in m .stands K (h .0) rest laid (d ∙ h .2) ∙ ap (basis K) (sym (ap (normal s) (h .1) ∙ signed.normal-not s (h .0)));
       counted = λ K f rest laid r. let h = tokens.behind-not q f rest r k in m .counted K (h .0) rest laid (d ∙ h .2) ∙ ap (rounds K) (sym (ap (normal s) (h .1) ∙ signed.normal-not s (h .0)));
       least = m .least;
+      marked = λ K f rest laid r.
+          let h = tokens.behind-not q f rest r k in
+          subst (λ (L : List Structure). Marked K L (c .stations)) (ap (basis K) (sym (ap (normal s) (h .1) ∙ signed.normal-not s (h .0)))) (m .marked K (h .0) rest laid (d ∙ h .2));
+      within = m .within;
     })
 
-    pub made-modal : (t : Bool) (c u v c₂ u₂ v₂ : ℕ) (w b w₂ b₂ : List ℕ) → getD q 0 0 ≡ modalToken t → u₂ ≡ u + 1 → v₂ ≡ v
-        → Made t shape q′ starts values c u v w b → Lifted (Bool·beq t s) shape c starts w w₂ b b₂ c₂ → Made s shape q starts values c₂ u₂ v₂ w₂ b₂
+    pub made-modal : (t : Bool) (c : Sets) (u v : ℕ) (c₂ : Sets) (u₂ v₂ : ℕ) (w b w₂ b₂ : List ℕ) → getD q 0 0 ≡ modalToken t → u₂ ≡ u + 1 → v₂ ≡ v
+        → Made t shape q′ starts values c u v w b → Lifted (Bool·beq t s) shape (c .count) starts w w₂ b b₂ c₂ → Made s shape q starts values c₂ u₂ v₂ w₂ b₂
     made-modal t c u v c₂ u₂ v₂ w b w₂ b₂ k eu ev m l = rw (eu, ev) (record {
       passed = λ f rest r.
           let h = tokens.behind-modal q f rest r t k in
@@ -230,6 +270,8 @@ module _ (s : Bool) (shape : Shape) (q starts values : List ℕ) where
           let h = tokens.behind-modal q f rest r t k in
           m .counted K (h .0) rest laid (d ∙ h .2) ∙ sym (normals.rounds-lifted (Bool·beq t s) K (normal t (h .0))) ∙ ap (rounds K) (sym (ap (normal s) (h .1) ∙ signed.normal-modal s t (h .0)));
       least = l .least;
+      marked = λ K f rest laid r. subst (Marked K (basis K (normal s f))) (sym (l .unmarked)) (none-marked K (basis K (normal s f)) 16);
+      within = subst (Within (shape .n)) (sym (l .unmarked)) (none-within (shape .n) 16);
     })
 
 -- What a step for possibly or not possibly is given.
@@ -242,11 +284,11 @@ pub record LiftRoom (shape : Shape) (c u : ℕ) (starts w b : List ℕ) : Type 0
   pub short : u ≤ 192
 
 pub lift-room : (s t : Bool) (shape : Shape) (q q′ starts values : List ℕ) (mw mb : ℕ) (r : Ready s shape q starts values mw mb) (d : q′ ≡ drop 1 q)
-    → getD q 0 0 ≡ modalToken t → (c u v : ℕ) (w b : List ℕ) → length w ≡ mw → length b ≡ mb → Made t shape q′ starts values c u v w b → LiftRoom shape c u starts w b
-lift-room s t shape q q′ starts values mw mb r d k c u v w b lw lb m =
+    → getD q 0 0 ≡ modalToken t → (sets : Sets) (u v : ℕ) (w b : List ℕ) → length w ≡ mw → length b ≡ mb → Made t shape q′ starts values sets u v w b → LiftRoom shape (sets .count) u starts w b
+lift-room s t shape q q′ starts values mw mb r d k sets u v w b lw lb m =
     let r′ = ready-modal s shape q starts values mw mb r q′ d t k in
-    let z = done t shape q′ starts values c u v w b m mw mb r′ in
-    let h : c ≤ held (normal t (r′ .formula)) = omega (arith, z .wide, width-held (normal t (r′ .formula))) in
+    let z = done t shape q′ starts values sets u v w b m mw mb r′ in
+    let h : sets .count ≤ held (normal t (r′ .formula)) = omega (arith, z .wide, width-held (normal t (r′ .formula))) in
     record {
       few = z .few;
       cells-fit = omega (arith, mul-le-mul-right ((shape .e + 1) * shape .n) h, r′ .cells-fit);

@@ -82,7 +82,7 @@ returns c =
             stationed = h .begun .stationed;
             counted = h .begun .counted;
           })),
-      (r .ensures .1, ap (take at) whole ∙ take-at (take at w) (r .last .0) at long, t .ensures .0),
+      (laws.looser e (r .result) (r .ensures .1), ap (take at) whole ∙ take-at (take at w) (r .last .0) at long, t .ensures .0),
     )
 
 pub intersect-at-spec : {M : Type 1} → statement M

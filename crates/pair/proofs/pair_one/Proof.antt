@@ -63,7 +63,7 @@ returns c =
       (
         omega arith,
         x .ensures .1 .0,
-        one.one-empty (a .x .n) (a .x .e) (s .pre .0 .some-station) (OnePair (a .x) (a .left .now) (a .first .now) (a .ws .now) (a .bs .now) (a .p .left) (a .p .right)) (λ K h. h .begun .counted) (λ K h. h .begun .stationed)
+        one.one-empty (a .x .n) (a .x .e) (s .pre .0 .some-station) (OnePair (a .x) (a .p) (a .left .now) (a .first .now) (a .ws .now) (a .bs .now)) (λ K h. h .begun .counted) (λ K h. h .begun .stationed)
             (a .p .left) (a .p .right) (a .p .to) (a .ws .now) (x .last .0) (a .bs .now) (b .last .0) (x .result) (x .ensures .0 (a .bs .now)) (x .ensures .1 .1) (b .ensures) (c .if1 .taken),
       ),
       x .ensures .1 .2,
@@ -90,7 +90,7 @@ returns-2 c =
       (
         omega arith,
         x .ensures .1 .0,
-        one.one-dropped (a .x .n) (a .x .e) (s .pre .0 .some-station) (OnePair (a .x) (a .left .now) (a .first .now) (a .ws .now) (a .bs .now) (a .p .left) (a .p .right)) (λ K h. h .begun .counted) (λ K h. h .begun .stationed)
+        one.one-dropped (a .x .n) (a .x .e) (s .pre .0 .some-station) (OnePair (a .x) (a .p) (a .left .now) (a .first .now) (a .ws .now) (a .bs .now)) (λ K h. h .begun .counted) (λ K h. h .begun .stationed)
             (a .p .left) (a .p .right) (a .p .to) (a .ws .now) (x .last .0) (a .bs .now) (b .last .0) (x .result) (x .ensures .0 (a .bs .now)) (x .ensures .1 .1) (b .ensures) (c .before .before .before .before .if1 .left) (c .before .barred-out .result) (c .before .barred-out .ensures) (c .if2 .taken),
       ),
       x .ensures .1 .2,
@@ -111,7 +111,7 @@ returns-3 c =
       (
         omega arith,
         x .ensures .1 .0,
-        one.one-kept (a .x .n) (a .x .e) (s .pre .0 .some-station) (OnePair (a .x) (a .left .now) (a .first .now) (a .ws .now) (a .bs .now) (a .p .left) (a .p .right)) (λ K h. h .begun .counted) (λ K h. h .begun .stationed)
+        one.one-kept (a .x .n) (a .x .e) (s .pre .0 .some-station) (OnePair (a .x) (a .p) (a .left .now) (a .first .now) (a .ws .now) (a .bs .now)) (λ K h. h .begun .counted) (λ K h. h .begun .stationed)
             (a .p .left) (a .p .right) (a .p .to) (a .ws .now) (x .last .0) (a .bs .now) (b .last .0) (x .result) (x .ensures .0 (a .bs .now)) (x .ensures .1 .1) (b .ensures) (c .before .before .before .before .if1 .left) (c .before .barred-out .result) (c .before .barred-out .ensures) (c .if2 .left),
       ),
       x .ensures .1 .2,

@@ -1,5 +1,6 @@
 -- Each atom's token by its function; no other token stands there.
 use mathlib.Core.Path.{_≡_, ap, _∙_}
+use mathlib.Core.Logic.{⊎-elim}
 use Prim.Native.Nat.{ℕ, _<_}
 use native.Mathlib.Omega.{arith}
 use mathlib.Core.List.{List}
@@ -26,6 +27,9 @@ shared-slice-read-t c = laws.question-some _ _ _ _ _ _ _ (c .before .before .bef
 range-requires : tie.Need-range-requires
 range-requires c κs = search needs
 
+unmarked-requires : tie.Need-unmarked-requires
+unmarked-requires c κs = search needs
+
 same-length : tie.Need-same-length
 same-length c = search needs
 
@@ -36,19 +40,10 @@ returns : tie.Need-returns
 returns c = search needs
 
 returns-2 : tie.Need-returns-2
-returns-2 c = let p = c .before .before .before .before .before .before .before .pre in absurd (omega (arith, token-there _ _ _ _ _ _ _ (p .0) (p .1), c .match .keys2))
-
-returns-3 : tie.Need-returns-3
-returns-3 c = let p = c .before .before .before .before .before .before .before .pre in absurd (c .match .rest .0 .1 (token-there _ _ _ _ _ _ _ (p .0) (p .1)))
+returns-2 c =
+    let p = c .before .before .before .before .before .before .before .before .pre in
+    let t = token-there _ _ _ _ _ _ _ (p .0) (p .1) in
+    absurd (⊎-elim (λ w. omega (arith, t, w .keys2)) (λ w. w .rest .0 .1 t) (c .before .match .came))
 
 pub leaf-spec : {M : Type 1} → statement M
-leaf-spec =
-    tie.close
-    (tie.spec
-    shared-slice-read-t
-    range-requires
-    same-length
-    same-length-2
-    returns
-    returns-2
-    returns-3)
+leaf-spec = tie.close (tie.spec shared-slice-read-t range-requires unmarked-requires same-length same-length-2 returns returns-2)

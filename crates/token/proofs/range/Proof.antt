@@ -1,16 +1,20 @@
--- 01's bytes are its station, lo and hi.
-use mathlib.Core.Path.{_≡_, sym, ap, ap₂, _∙_}
-use Prim.Native.Nat.{ℕ, _+_, _*_, _≤_, _<_}
+-- 01's bytes are its station, lo and hi; its set is of that station.
+use mathlib.Core.Path.{_≡_, sym, ap, ap₂, subst, _∙_}
+use Prim.Native.Nat.{ℕ, suc, _+_, _*_, _≤_, _<_}
 use native.Mathlib.Omega.{arith}
-use mathlib.Core.List.{List, []}
+use mathlib.Core.List.{List, [], _∷_, _++_}
 use mathlib.Core.Bool.{Bool}
-use lib.ListN.{length, getD}
+use lib.ListN.{length, getD, replicate}
 use Rattle.model.specs.Computation.{Computation, full}
-use Rattle.model.specs.Atom.{Atom, raiseAtom}
+use Rattle.model.specs.Atom.{Atom, atomBytes, raiseAtom}
 use Rattle.model.specs.Atom.Atom.{inRange}
 use Rattle.model.specs.Structure.{build}
+use Rattle.lattice.proofs.OfStation.{literal-station}
 use Rattle.structure.specs.Layout.{standing}
 use Rattle.structure.specs.declared.Shape.{Shape}
+use Rattle.structure.specs.declared.Sets.{Sets}
+use Rattle.structure.specs.Marks.{Marked, Within}
+use Rattle.structure.proofs.Marks.{one-marked, one-within}
 use Rattle.cells.proofs.Parts.{word-at}
 use Rattle.token.specs.Contract.{Given, Ready, Made}
 use Rattle.token.proofs.Atoms.{at-range, range-station}
@@ -26,21 +30,31 @@ module _ (s : Bool) (x : Shape) (q starts facts : List ℕ) where
       let g = at-range q (h .0) (r .rest) (h .1) k in
       (g .long, range-station (x .n) q (h .0) g (h .2))
 
-  made-range : (c : ℕ) (w b : List ℕ) (lo hi : ℕ) → getD q 0 0 ≡ 1 → lo ≡ 256 * getD q 2 0 + getD q 3 0 → hi ≡ 256 * getD q 4 0 + getD q 5 0
-      → c ≤ 1 → (0 < c → getD w 0 0 ≡ 255 → ⊥)
-      → ((K : Computation) → Given K x starts facts → standing (x .n) (full K) c w b ≡ build K (raiseAtom K s (inRange (getD q 1 0) lo hi)) [])
-      → Made s x q starts facts c 6 0 w b
-  made-range c w b lo hi k el eh h first stands =
-      laws.made-atom s x q starts facts c 6 w b (λ a b. omega (arith, k)) h first (λ a rest r. sym (at-range q a rest r k .bytes)) (λ K a rest laid r.
-      let g = at-range q a rest r k in
-      let y : inRange (getD q 1 0) lo hi ≡ a = ap (λ (i : ℕ). inRange i lo hi) (g .station-is) ∙ ap₂ (inRange (g .station)) (el ∙ g .low-is) (eh ∙ g .high-is) ∙ sym (g .is) in
-      stands K laid ∙ ap (λ (z : Atom). build K (raiseAtom K s z) []) y)
+  module _ (sets : Sets) (w b : List ℕ) (i lo hi : ℕ) (k : getD q 0 0 ≡ 1) (ei : i ≡ getD q 1 0) (el : lo ≡ 256 * getD q 2 0 + getD q 3 0) (eh : hi ≡ 256 * getD q 4 0 + getD q 5 0)
+      (few : getD q 1 0 < x .n) (marks : sets .stations ≡ (getD q 1 0 + 1) ∷ replicate 15 0) where
+    marks-are : sets .stations ≡ suc (getD q 1 0) ∷ replicate 15 0
+    marks-are = marks ∙ ap (λ (m : ℕ). m ∷ replicate 15 0) (let o : getD q 1 0 + 1 ≡ suc (getD q 1 0) = omega arith in o)
+
+    -- Whatever atom is read there.
+    atom-is : (a : Atom) (rest : List ℕ) → q ≡ atomBytes a ++ rest → inRange (getD q 1 0) lo hi ≡ a
+    atom-is a rest r =
+        let g = at-range q a rest r k in
+        ap (λ (j : ℕ). inRange j lo hi) (g .station-is) ∙ ap₂ (inRange (g .station)) (el ∙ g .low-is) (eh ∙ g .high-is) ∙ sym (g .is)
+
+    made-range : sets .count ≤ 1 → (0 < sets .count → getD w 0 0 ≡ 255 → ⊥)
+        → ((K : Computation) → Given K x starts facts → standing (x .n) (full K) (sets .count) w b ≡ build K (raiseAtom K s (inRange i lo hi)) [])
+        → Made s x q starts facts sets 6 0 w b
+    made-range h first stands =
+        laws.made-atom s x q starts facts sets 6 w b (λ a b. omega (arith, k)) h first (λ a rest r. sym (at-range q a rest r k .bytes))
+        (λ K a rest laid r. stands K laid ∙ ap (λ (j : ℕ). build K (raiseAtom K s (inRange j lo hi)) []) ei ∙ ap (λ (z : Atom). build K (raiseAtom K s z) []) (atom-is a rest r))
+        (λ K a rest laid r.
+        subst (λ (z : Atom). Marked K (build K (raiseAtom K s z) []) (sets .stations)) (atom-is a rest r)
+        (subst (Marked K (build K (raiseAtom K s (inRange (getD q 1 0) lo hi)) [])) (sym marks-are)
+        (one-marked K (build K (raiseAtom K s (inRange (getD q 1 0) lo hi)) []) (getD q 1 0) 15 (literal-station K (laid .0 .valid) s (getD q 1 0) lo hi))))
+        (subst (Within (x .n)) (sym marks-are) (one-within (x .n) (getD q 1 0) 15 few))
 
 shared-slice-read-s : tie.Need-shared-slice-read-s
 shared-slice-read-s c = let p = c .before .before .before .before .before .before .pre in omega (arith, bytes-there _ _ _ _ _ _ _ (p .0) (p .1))
-
-cast-s : tie.Need-cast-s
-cast-s c = omega (arith, c .before .before .before .before .before .shared-slice-known .given 1)
 
 word-requires : tie.Need-word-requires
 word-requires c κs = let p = c .before .before .before .before .before .before .pre in omega (arith, bytes-there _ _ _ _ _ _ _ (p .0) (p .1))
@@ -48,10 +62,16 @@ word-requires c κs = let p = c .before .before .before .before .before .before 
 word-requires-2 : tie.Need-word-requires-2
 word-requires-2 c κs = let p = c .before .before .before .before .before .before .before .pre in omega (arith, bytes-there _ _ _ _ _ _ _ (p .0) (p .1))
 
+wide-requires : tie.Need-wide-requires
+wide-requires c κs = search needs
+
 range-requires : tie.Need-range-requires
 range-requires c κs =
-    let p = c .before .before .before .before .before .before .before .before .before .before .pre in
-    ((p .0 .computation, p .0 .laid .0, p .0 .laid .1), (bytes-there _ _ _ _ _ _ _ (p .0) (p .1) .1, laws.atom-cells _ _ _ _ _ _ _ (p .0), laws.atom-bars _ _ _ _ _ _ _ (p .0)))
+    let p = c .before .before .before .before .before .before .before .before .before .before .before .pre in
+    ((p .0 .computation, p .0 .laid .0, p .0 .laid .1), (omega (arith, bytes-there _ _ _ _ _ _ _ (p .0) (p .1) .1, c .before .before .wide .ensures .0), laws.atom-cells _ _ _ _ _ _ _ (p .0), laws.atom-bars _ _ _ _ _ _ _ (p .0)))
+
+of-station-requires : tie.Need-of-station-requires
+of-station-requires c κs = let p = c .before .before .before .before .before .before .before .before .before .before .before .before .before .before .before .before .pre in omega (arith, bytes-there _ _ _ _ _ _ _ (p .0) (p .1) .1, p .0 .laid .0 .shaped .few-stations)
 
 same-length : tie.Need-same-length
 same-length c = search needs
@@ -61,19 +81,24 @@ same-length-2 c = search needs
 
 returns : tie.Need-returns
 returns c =
-    let a = c .before .before .before .before .before .before .before .before .before .before .before .before .before .before .before .args in
-    let r = c .before .before .before .before .range .ensures in
-    made-range (a .sign) (a .x) (a .q .now) (a .starts .now) (a .facts .now) _ _ _ (c .before .before .before .before .before .before .before .before .word .result) (c .before .before .before .before .before .before .before .word2 .result) (c .before .before .before .before .before .before .before .before .before .before .before .before .before .before .before .pre .1) (c .before .before .before .before .before .before .before .before .word .ensures ∙ word-at (a .q .now) 2) (c .before .before .before .before .before .before .before .word2 .ensures ∙ word-at (a .q .now) 4) (r .0) (r .1) (λ K g. r .2 K (g .0) (g .1))
+    let s = c .before .before .before .before .before .before .before .before .before .before .before .before .before .before .before .before .before in
+    let a = s .args in
+    let r = c .before .before .before .before .before .range in
+    let o = c .of-station .ensures in
+    let n = bytes-there _ _ _ _ _ _ _ (s .pre .0) (s .pre .1) .1 in
+    made-range (a .sign) (a .x) (a .q .now) (a .starts .now) (a .facts .now) (c .of-station .result) _ _ (c .before .before .before .before .before .before .before .before .wide .result) (c .before .before .before .before .before .before .before .before .before .before .word .result) (c .before .before .before .before .before .before .before .before .before .word2 .result) (s .pre .1) (c .before .before .before .before .before .before .before .before .wide .ensures .0) (c .before .before .before .before .before .before .before .before .before .before .word .ensures ∙ word-at (a .q .now) 2) (c .before .before .before .before .before .before .before .before .before .word2 .ensures ∙ word-at (a .q .now) 4) n (o .1)
+    (omega (arith, o .0, r .ensures .0)) (λ h. r .ensures .1 (omega (arith, o .0, h))) (λ K g. ap (λ (m : ℕ). standing (a .x .n) (full K) m (r .last .0) (r .last .1 .0)) (o .0) ∙ r .ensures .2 K (g .0) (g .1))
 
 pub range-spec : {M : Type 1} → statement M
 range-spec =
     tie.close
     (tie.spec
     shared-slice-read-s
-    cast-s
     word-requires
     word-requires-2
+    wide-requires
     range-requires
+    of-station-requires
     same-length
     same-length-2
     returns)

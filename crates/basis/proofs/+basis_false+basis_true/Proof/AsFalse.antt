@@ -30,12 +30,12 @@ pub two-false : (t : ℕ) (c : basis-false-lts.Then2 (R-basis-false t) (basis-fa
 two-false t c = tokens.two-arm _ (c .before .before .match .rest .0 .0 .1) (c .before .if1 .left) (c .if2 .taken)
 
 pub left-false : (t : ℕ) (c : basis-false-lts.After-basis-false2 (R-basis-false t) (basis-false-at t) basis-false.Post)
-    → pairing.Left (c .before .before .before .before .before .before .before .before .before .before .before .before .before .args .x .n) (c .before .before .before .before .before .before .before .before .before .before .before .before .before .args .x .e) (c .basis-false2 .result .count) (c .basis-false2 .result .used) (c .basis-false2 .result .rounds) (length (c .before .before .before .before .before .before .before .before .before .before .before .before .before .args .q .now)) (length (c .basis-false2 .last .1 .0)) (length (c .basis-false2 .last .1 .1 .0))
+    → pairing.Left (c .before .before .before .before .before .before .before .before .before .before .before .before .before .args .x .n) (c .before .before .before .before .before .before .before .before .before .before .before .before .before .args .x .e) (c .basis-false2 .result .sets .count) (c .basis-false2 .result .used) (c .basis-false2 .result .rounds) (length (c .before .before .before .before .before .before .before .before .before .before .before .before .before .args .q .now)) (length (c .basis-false2 .last .1 .0)) (length (c .basis-false2 .last .1 .1 .0))
 left-false t c =
     let k = two-false t (c .before .before .before .before) in
     let a = c .before .before .before .before .before .before .before .before .before .before .before .before .before .args in
     pairing.left false (k .0) (a .x) (a .q .now) (c .before .before .before .after4 .result .now) (a .starts .now) (a .facts .now) (a .ws .now) (a .bs .now) (c .before .before .before .before .before .before .before .before .before .before .before .before .before .pre .1) (k .1) (c .before .before .before .after4 .ensures)
-    (c .basis-false2 .result .count) (c .basis-false2 .result .used) (c .basis-false2 .result .rounds) (c .basis-false2 .last .1 .0) (c .basis-false2 .last .1 .1 .0) (c .basis-false2 .kept .1 .0) (c .basis-false2 .kept .1 .1 .0) (c .basis-false2 .ensures)
+    (c .basis-false2 .result .sets) (c .basis-false2 .result .used) (c .basis-false2 .result .rounds) (c .basis-false2 .last .1 .0) (c .basis-false2 .last .1 .1 .0) (c .basis-false2 .kept .1 .0) (c .basis-false2 .kept .1 .1 .0) (c .basis-false2 .ensures)
 
 pub basis-false-shared-slice-read-t : (t : ℕ) → basis-false-lts.Need-shared-slice-read-t (R-basis-false t) (basis-false-at t) basis-false.Post
 basis-false-shared-slice-read-t t c = laws.question-some _ _ _ _ _ _ _ (c .before .before .before .before .before .before .pre .1)
@@ -139,7 +139,7 @@ basis-false-basis-false-requires-3 t c κs =
     let x = c .before .before .before .before .before .before .before .before .before .before .before .before .before .after4 in
     let l = c .before .before .before .before .before .before .before .before .before .before .basis-false2 in
     let y = c .before .before .after5 in
-    (omega (arith, pairing.right-shorter false (k .0) (a .x) (a .q .now) (x .result .now) (a .starts .now) (a .facts .now) (a .ws .now) (a .bs .now) (o .pre .1) (k .1) (x .ensures) (l .result .count) (l .result .used) (l .result .rounds) (l .last .1 .0) (l .last .1 .1 .0) (l .kept .1 .0) (l .kept .1 .1 .0) (l .ensures) (y .result .now) (y .ensures), o .pre .0), pairing.right-ready false (k .0) (a .x) (a .q .now) (x .result .now) (a .starts .now) (a .facts .now) (a .ws .now) (a .bs .now) (o .pre .1) (k .1) (x .ensures) (l .result .count) (l .result .used) (l .result .rounds) (l .last .1 .0) (l .last .1 .1 .0) (l .kept .1 .0) (l .kept .1 .1 .0) (l .ensures) (y .result .now) (y .ensures))
+    (omega (arith, pairing.right-shorter false (k .0) (a .x) (a .q .now) (x .result .now) (a .starts .now) (a .facts .now) (a .ws .now) (a .bs .now) (o .pre .1) (k .1) (x .ensures) (l .result .sets) (l .result .used) (l .result .rounds) (l .last .1 .0) (l .last .1 .1 .0) (l .kept .1 .0) (l .kept .1 .1 .0) (l .ensures) (y .result .now) (y .ensures), o .pre .0), pairing.right-ready false (k .0) (a .x) (a .q .now) (x .result .now) (a .starts .now) (a .facts .now) (a .ws .now) (a .bs .now) (o .pre .1) (k .1) (x .ensures) (l .result .sets) (l .result .used) (l .result .rounds) (l .last .1 .0) (l .last .1 .1 .0) (l .kept .1 .0) (l .kept .1 .1 .0) (l .ensures) (y .result .now) (y .ensures))
 
 pub basis-false-combine-requires : (t : ℕ) → basis-false-lts.Need-combine-requires (R-basis-false t) (basis-false-at t) basis-false.Post
 basis-false-combine-requires t c κs =
@@ -152,8 +152,8 @@ basis-false-combine-requires t c κs =
     let m = c .before .before .before .before .before .before .basis-false3 in
     let r = o .pre .1 in
     let g = left-false t (c .before .before .before .before .before .before .before .before .before .before .before .before .before .before .before .before .before) in
-    let f = pairing.right-few false (k .0) (a .x) (a .q .now) (x .result .now) (a .starts .now) (a .facts .now) (a .ws .now) (a .bs .now) (o .pre .1) (k .1) (x .ensures) (l .result .count) (l .result .used) (l .result .rounds) (l .last .1 .0) (l .last .1 .1 .0) (l .kept .1 .0) (l .kept .1 .1 .0) (l .ensures) (y .result .now) (y .ensures) (m .result .count) (m .result .used) (m .result .rounds) (m .last .1 .0) (m .last .1 .1 .0) (m .ensures) (m .kept .1 .0) (m .kept .1 .1 .0) in
-    (r .laid .0 .shaped, ((laws.starts-room _ _ _ _ _ _ _ r, g .short, f .1, g .small, f .2, g .few, f .0), (pairing.least-both false (k .0) (a .x) (a .q .now) (x .result .now) (a .starts .now) (a .facts .now) (a .ws .now) (a .bs .now) (o .pre .1) (k .1) (x .ensures) (l .result .count) (l .result .used) (l .result .rounds) (l .last .1 .0) (l .last .1 .1 .0) (l .kept .1 .0) (l .kept .1 .1 .0) (l .ensures) (y .result .now) (y .ensures) (m .result .count) (m .result .used) (m .result .rounds) (m .last .1 .0) (m .last .1 .1 .0) (m .ensures) (m .kept .1 .0) (m .kept .1 .1 .0), pairing.pairs-ready false (k .0) (a .x) (a .q .now) (x .result .now) (a .starts .now) (a .facts .now) (a .ws .now) (a .bs .now) (o .pre .1) (k .1) (x .ensures) (l .result .count) (l .result .used) (l .result .rounds) (l .last .1 .0) (l .last .1 .1 .0) (l .kept .1 .0) (l .kept .1 .1 .0) (l .ensures) (y .result .now) (y .ensures) (m .result .count) (m .result .used) (m .result .rounds) (m .last .1 .0) (m .last .1 .1 .0) (m .ensures) (m .kept .1 .0) (m .kept .1 .1 .0) (eqb (getD (a .q .now) 0 0) 4) (tokens.is-or _ (k .0) (k .1)))))
+    let f = pairing.right-few false (k .0) (a .x) (a .q .now) (x .result .now) (a .starts .now) (a .facts .now) (a .ws .now) (a .bs .now) (o .pre .1) (k .1) (x .ensures) (l .result .sets) (l .result .used) (l .result .rounds) (l .last .1 .0) (l .last .1 .1 .0) (l .kept .1 .0) (l .kept .1 .1 .0) (l .ensures) (y .result .now) (y .ensures) (m .result .sets) (m .result .used) (m .result .rounds) (m .last .1 .0) (m .last .1 .1 .0) (m .ensures) (m .kept .1 .0) (m .kept .1 .1 .0) in
+    (r .laid .0 .shaped, ((laws.starts-room _ _ _ _ _ _ _ r, g .short, f .1, g .small, f .2, g .few, f .0), ((pairing.least-both false (k .0) (a .x) (a .q .now) (x .result .now) (a .starts .now) (a .facts .now) (a .ws .now) (a .bs .now) (o .pre .1) (k .1) (x .ensures) (l .result .sets) (l .result .used) (l .result .rounds) (l .last .1 .0) (l .last .1 .1 .0) (l .kept .1 .0) (l .kept .1 .1 .0) (l .ensures) (y .result .now) (y .ensures) (m .result .sets) (m .result .used) (m .result .rounds) (m .last .1 .0) (m .last .1 .1 .0) (m .ensures) (m .kept .1 .0) (m .kept .1 .1 .0), l .ensures .within, m .ensures .within), pairing.pairs-ready false (k .0) (a .x) (a .q .now) (x .result .now) (a .starts .now) (a .facts .now) (a .ws .now) (a .bs .now) (o .pre .1) (k .1) (x .ensures) (l .result .sets) (l .result .used) (l .result .rounds) (l .last .1 .0) (l .last .1 .1 .0) (l .kept .1 .0) (l .kept .1 .1 .0) (l .ensures) (y .result .now) (y .ensures) (m .result .sets) (m .result .used) (m .result .rounds) (m .last .1 .0) (m .last .1 .1 .0) (m .ensures) (m .kept .1 .0) (m .kept .1 .1 .0) (eqb (getD (a .q .now) 0 0) 4) (tokens.is-or _ (k .0) (k .1)))))
 
 pub basis-false-leaf-requires : (t : ℕ) → basis-false-lts.Need-leaf-requires (R-basis-false t) (basis-false-at t) basis-false.Post
 basis-false-leaf-requires t c κs =
@@ -199,13 +199,13 @@ pub basis-false-same-length-7 : (t : ℕ) → basis-false-lts.Need-same-length-7
 basis-false-same-length-7 t c =
     let a = c .before .before .before .before .before .before .before .before .before .before .before .before .before .before .before .before .before .before .before .before .before .before .before .before .before .before .before .before .before .before .before .before .before .before .before .args in
     let l = c .before .before .before .before .before .before .before .before .before .before .before .before .before .before .before .before .before .before .before .before .before .before .basis-false2 in
-    c .before .before .before .before .combine .kept .0 ∙ same-len-mid (l .result .count * ((a .x .e + 1) * a .x .n)) (length (l .last .1 .0) - l .result .count * ((a .x .e + 1) * a .x .n)) (l .last .1 .0) (c .before .before .before .before .before .before .before .before .before .before .before .basis-false3 .last .1 .0) (c .before .before .before .before .before .before .before .before .before .before .before .basis-false3 .kept .1 .0) ∙ l .kept .1 .0
+    c .before .before .before .before .combine .kept .0 ∙ same-len-mid (l .result .sets .count * ((a .x .e + 1) * a .x .n)) (length (l .last .1 .0) - l .result .sets .count * ((a .x .e + 1) * a .x .n)) (l .last .1 .0) (c .before .before .before .before .before .before .before .before .before .before .before .basis-false3 .last .1 .0) (c .before .before .before .before .before .before .before .before .before .before .before .basis-false3 .kept .1 .0) ∙ l .kept .1 .0
 
 pub basis-false-same-length-8 : (t : ℕ) → basis-false-lts.Need-same-length-8 (R-basis-false t) (basis-false-at t) basis-false.Post
 basis-false-same-length-8 t c =
     let a = c .before .before .before .before .before .before .before .before .before .before .before .before .before .before .before .before .before .before .before .before .before .before .before .before .before .before .before .before .before .before .before .before .before .before .before .args in
     let l = c .before .before .before .before .before .before .before .before .before .before .before .before .before .before .before .before .before .before .before .before .before .before .basis-false2 in
-    c .before .before .before .before .combine .kept .1 .0 ∙ same-len-mid (l .result .count * (16 * a .x .n)) (length (l .last .1 .1 .0) - l .result .count * (16 * a .x .n)) (l .last .1 .1 .0) (c .before .before .before .before .before .before .before .before .before .before .before .basis-false3 .last .1 .1 .0) (c .before .before .before .before .before .before .before .before .before .before .before .basis-false3 .kept .1 .1 .0) ∙ l .kept .1 .1 .0
+    c .before .before .before .before .combine .kept .1 .0 ∙ same-len-mid (l .result .sets .count * (16 * a .x .n)) (length (l .last .1 .1 .0) - l .result .sets .count * (16 * a .x .n)) (l .last .1 .1 .0) (c .before .before .before .before .before .before .before .before .before .before .before .basis-false3 .last .1 .1 .0) (c .before .before .before .before .before .before .before .before .before .before .before .basis-false3 .kept .1 .1 .0) ∙ l .kept .1 .1 .0
 
 pub basis-false-returns-4 : (t : ℕ) → basis-false-lts.Need-returns-4 (R-basis-false t) (basis-false-at t) basis-false.Post
 basis-false-returns-4 t c =
@@ -216,7 +216,7 @@ basis-false-returns-4 t c =
     let l = c .before .before .before .before .before .before .before .before .before .before .before .before .before .before .before .before .before .before .before .before .before .before .basis-false2 in
     let y = c .before .before .before .before .before .before .before .before .before .before .before .before .before .before .after5 in
     let m = c .before .before .before .before .before .before .before .before .before .before .before .basis-false3 in
-    pairing.made-two false (k .0) (a .x) (a .q .now) (x .result .now) (a .starts .now) (a .facts .now) (a .ws .now) (a .bs .now) (o .pre .1) (k .1) (x .ensures) (l .result .count) (l .result .used) (l .result .rounds) (l .last .1 .0) (l .last .1 .1 .0) (l .kept .1 .0) (l .kept .1 .1 .0) (l .ensures) (y .result .now) (y .ensures) (m .result .count) (m .result .used) (m .result .rounds) (m .last .1 .0) (m .last .1 .1 .0) (m .ensures) (m .kept .1 .0) (m .kept .1 .1 .0) (eqb (getD (a .q .now) 0 0) 4) (tokens.is-or _ (k .0) (k .1)) _ _ _ _ _ (c .before .before .before .before .combine .ensures .0) (c .before .before .before .before .combine .ensures .1)
+    pairing.made-two false (k .0) (a .x) (a .q .now) (x .result .now) (a .starts .now) (a .facts .now) (a .ws .now) (a .bs .now) (o .pre .1) (k .1) (x .ensures) (l .result .sets) (l .result .used) (l .result .rounds) (l .last .1 .0) (l .last .1 .1 .0) (l .kept .1 .0) (l .kept .1 .1 .0) (l .ensures) (y .result .now) (y .ensures) (m .result .sets) (m .result .used) (m .result .rounds) (m .last .1 .0) (m .last .1 .1 .0) (m .ensures) (m .kept .1 .0) (m .kept .1 .1 .0) (eqb (getD (a .q .now) 0 0) 4) (tokens.is-or _ (k .0) (k .1)) _ _ _ _ _ (c .before .before .before .before .combine .ensures .0) (c .before .before .before .before .combine .ensures .1)
 
 pub basis-false-same-length-9 : (t : ℕ) → basis-false-lts.Need-same-length-9 (R-basis-false t) (basis-false-at t) basis-false.Post
 basis-false-same-length-9 t c = c .before .before .before .before .leaf .kept .1 .0
