@@ -12,7 +12,7 @@ use Rattle.model.specs.Cut.{Cut, _!_}
 use Rattle.model.specs.Computation.{Computation, Consistent, stations, count, full, eventCount}
 use Rattle.structure.specs.Layout.{decoded}
 use Rattle.cells.proofs.Parts.{cell-same, paste-front, paste-part}
-use Rattle.structure.proofs.Rows.{decoded-some, decoded-is}
+use Rattle.structure.proofs.Rows.{decoded-some, decoded-is, is-none}
 use Rattle.lattice.proofs.Sums.{total-take}
 use Rattle.lattice.proofs.Consistency.{full-at}
 use Rattle.numbering.specs.Rows.{number, numbered, Small, Coded, Says, Slots, Rows, Coding, Offsets, Put, Copied}
@@ -200,9 +200,9 @@ module _ (K : Computation) (code : List ℕ) (m : Small K) (o : Offsets K code) 
   number-back j zero h = omega arith
   number-back j (suc k) h = omega (arith, o j h)
 
-  pub counts-are : (x : Cut) (cut t ws₂ : List ℕ) (at : ℕ) → Coded K x cut → length t ≡ 8 → ((i : ℕ) → i < 8 → getD t i 0 ≡ getD cut i 0 - getD code (8 + i) 0)
+  coded-counts : (x : Cut) (cut t ws₂ : List ℕ) (at : ℕ) → Coded K x cut → length t ≡ 8 → ((i : ℕ) → i < 8 → getD t i 0 ≡ getD cut i 0 - getD code (8 + i) 0)
       → ((i : ℕ) → i < stations K → getD ws₂ (at + i) 0 ≡ getD t i 0) → at + stations K ≤ length ws₂ → decoded (take (stations K) (drop at ws₂)) ≡ some x
-  counts-are x cut t ws₂ at h l f g room = ap decoded is ∙ decoded-some x (λ e. omega (arith, e, h .consistent .within 0, number-le K 0 (x ! 0) (h .consistent .within 0), first-some K m x cut h, h .cells 0, number-first K (x ! 0)))
+  coded-counts x cut t ws₂ at h l f g room = ap decoded is ∙ decoded-some x (λ e. omega (arith, e, h .consistent .within 0, number-le K 0 (x ! 0) (h .consistent .within 0), first-some K m x cut h, h .cells 0, number-first K (x ! 0)))
     where
       long : length (take (stations K) (drop at ws₂)) ≡ stations K
       long = length-take-le (stations K) (drop at ws₂) (omega (arith, length-drop at ws₂))
@@ -212,3 +212,13 @@ module _ (K : Computation) (code : List ℕ) (m : Small K) (o : Offsets K code) 
           let s : i < stations K = omega (arith, long) in
           getD-take (stations K) (drop at ws₂) i 0 s ∙ getD-drop at ws₂ i 0 ∙ g i s ∙ f i (omega (arith, m .few-stations))
           ∙ ap (λ (y : ℕ). y - getD code (8 + i) 0) (h .cells i) ∙ number-back i (x ! i) s)
+
+  -- Of none the first cell stays 255.
+  pub counts-are : (x : Option Cut) (cut t ws₂ : List ℕ) (at : ℕ) → Says K x cut → length t ≡ 8 → ((i : ℕ) → i < 8 → getD t i 0 ≡ getD cut i 0 - getD code (8 + i) 0)
+      → ((i : ℕ) → i < stations K → getD ws₂ (at + i) 0 ≡ getD t i 0) → at + stations K ≤ length ws₂ → decoded (take (stations K) (drop at ws₂)) ≡ x
+  unfolding sum
+  counts-are none cut t ws₂ at h l f g room =
+      let z : getD code 8 0 ≡ 0 = o 0 (m .some-station) in
+      let first : getD ws₂ (at + 0) 0 ≡ 255 = omega (arith, g 0 (m .some-station), f 0 (omega arith), z, h) in
+      is-none (stations K) (drop at ws₂) (m .some-station) (getD-drop at ws₂ 0 0 ∙ first)
+  counts-are (some x) cut t ws₂ at h l f g room = coded-counts x cut t ws₂ at h l f g room

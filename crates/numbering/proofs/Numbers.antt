@@ -22,7 +22,7 @@ module _ (K : Computation) (j : ℕ) where
   number-max (suc a) zero = let e : max (suc a) 0 ≡ suc a = omega arith in let f : max (number K j (suc a)) 0 ≡ number K j (suc a) = omega arith in ap (number K j) e ∙ sym f
   number-max (suc a) (suc b) = let e : max (suc a) (suc b) ≡ suc (max a b) = omega arith in rw e (omega arith)
 
-  number-same : (a b : ℕ) → number K j a ≡ number K j b → a ≡ b
+  pub number-same : (a b : ℕ) → number K j a ≡ number K j b → a ≡ b
   unfolding number
   number-same zero zero e = refl
   number-same zero (suc b) e = absurd (omega arith)

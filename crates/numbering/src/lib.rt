@@ -2,13 +2,13 @@
 // event, and the cells past the stations are 0. The rows of a structure stand in a table of rows of eight cells: row 0 is the least cut and row
 // i that of event i, so that each cell of a cut names the row to join, and a 0 the least cut again. The table has a row for every byte.
 ghost use mathlib.Core.Path.{_≡_};
-ghost use mathlib.Core.Option.{Option, some};
+ghost use mathlib.Core.Option.{Option};
 ghost use Prim.Native.Nat.{ℕ, _+_, _*_, _-_, _≤_, _<_, min};
 ghost use lib.ListN.{length, getD, take, drop};
 ghost use Rattle.model.specs.Cut.{Cut};
 ghost use Rattle.model.specs.Computation.{Computation, stations, eventCount};
 ghost use Rattle.structure.specs.Layout.{decoded};
-ghost use Rattle.numbering.specs.Rows.{Small, Coded, Slots, Rows, Coding, Offsets, Put, Copied};
+ghost use Rattle.numbering.specs.Rows.{Small, Says, Slots, Rows, Coding, Offsets, Put, Copied};
 
 // The smaller count.
 fn smaller(x: u8, y: u8) -> u8
@@ -99,10 +99,10 @@ fn counted(x: u8, before: u8) -> u8
     if before < x { x - before } else { 0 }
 }
 
-// A cut as n counts, at a place of ws. Eight cells are written where there are as many.
+// A cut as n counts, or none, at a place of ws. Eight cells are written where there are as many.
 pub fn put_counts(ws: &mut [u8], at: usize, n: usize, cut: &[u8; 8], code: &[u8; 16])
     requires { ⌜ (n ≤ 8) × (at + n ≤ length (now ws)) × (length (now cut) ≡ 8) × (length (now code) ≡ 16) ⌝ }
-    ensures { λ _. ⌜ ((K : Computation) (x : Cut) → Small K → stations K ≡ n → Offsets K (now (code .entry)) → Coded K x (now (cut .entry)) → decoded (take n (drop at (now (ws .exit)))) ≡ some x) ⌝ }
+    ensures { λ _. ⌜ ((K : Computation) (o : Option Cut) → Small K → stations K ≡ n → Offsets K (now (code .entry)) → Says K o (now (cut .entry)) → decoded (take n (drop at (now (ws .exit)))) ≡ o) ⌝ }
     ensures { λ _. ⌜ take at (now (ws .exit)) ≡ take at (now (ws .entry)) ⌝ }
 {
     let mut t = [0u8; 8];

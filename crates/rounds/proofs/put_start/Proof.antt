@@ -1,6 +1,7 @@
 -- `rounds::put_start` meets its contract: the cells written are the start's cut, or say none.
 use mathlib.Core.Path.{_∙_, sym}
 use native.Mathlib.Omega.{arith}
+use mathlib.Core.Option.{some}
 use lib.Seq.{take-set-le}
 use Rattle.start.proofs.Turns as laws
 use borrow.Author.Needs.{needs}
@@ -26,7 +27,7 @@ returns : tie.Need-returns
 returns c =
     let a = c .before .before .before .before .before .before .before .before .before .args in
     let w = c .before .before .put-counts in (
-      λ K o m p f h. let v = laws.reached-some K (a .r .outcome) (a .r .cut) o (c .before .before .before .before .before .enum-told .given .1) h in w .ensures .0 K (v .0) m p f (v .2) ∙ sym (v .1),
+      λ K o m p f h. let v = laws.reached-some K (a .r .outcome) (a .r .cut) o (c .before .before .before .before .before .enum-told .given .1) h in w .ensures .0 K (some (v .0)) m p f (v .2) ∙ sym (v .1),
       w .ensures .1,
     )
 
