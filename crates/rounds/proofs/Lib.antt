@@ -1,3 +1,3 @@
--- Laws that the proofs share.
+-- Laws that the proofs share, and those of the loop over all starts, which other crates use.
 mod Starts
-mod Turned
+pub mod Turned

@@ -5,19 +5,20 @@ use native.Mathlib.Numerals.{add-one}
 use native.Mathlib.Omega.{arith}
 use lib.ListN.{length}
 use Rattle.structure.proofs.Places.{row-fits}
+use Rattle.rounds.specs.Pair.{Known}
 use Rattle.rounds.proofs.Turned as laws
 use borrow.Author.Needs.{needs}
 use Rattle.rounds.proofs.intersect.Statement.{statement}
 use Rattle.rounds.proofs.intersect.Tie as tie
 
 abbrev Inv-loop : tie.InvT-loop
-Inv-loop ws₀ left right first n e code rounds₀ i₀ ws rounds i = (length ws ≡ length ws₀) × laws.Turned n e left right first code i ws rounds
+Inv-loop ws₀ left right first n e code rounds₀ i₀ ws rounds i = (length ws ≡ length ws₀) × laws.Turned n e (e + 2) (λ K S T. Known K S T n e left right first code) i ws rounds
 
 abbrev μ-loop : tie.MeasureT-loop
 μ-loop ws₀ left right first n e code rounds₀ i₀ ws rounds i = e + 1 - i
 
 loop-holds : tie.Need-loop-holds Inv-loop μ-loop
-loop-holds c = let a = c .before .args in (refl, laws.turned-none (a .n) (a .e) (a .left .now) (a .right .now) (a .first .now) (a .code .now) (a .ws .now))
+loop-holds c = let a = c .before .args in (refl, laws.turned-none (a .n) (a .e) (a .e + 2) _ (a .ws .now))
 
 one-start-requires : tie.Need-one-start-requires Inv-loop μ-loop
 one-start-requires c κs = search needs
@@ -35,7 +36,7 @@ add-rounds : tie.Need-add-rounds Inv-loop μ-loop
 add-rounds c =
     let s = c .before .before .before .before .before .before .before .before .before in
     let l = c .before .before .before .before .before .before .before .loop in
-    omega (arith, laws.few-rounds (l .i) (s .args .e) (l .rounds) (c .before .before .before .before .before .before .loop-test .taken) (s .pre .1 .2) (l .inv .1 .few), c .before .before .before .before .before .one-start .ensures .1 .0, s .pre .1 .2)
+    omega (arith, laws.few-rounds (l .i) (s .args .e) (s .args .e + 2) (l .rounds) (c .before .before .before .before .before .before .loop-test .taken) (s .pre .1 .2) (omega arith) (l .inv .1 .few), c .before .before .before .before .before .one-start .ensures .1 .0, s .pre .1 .2)
 
 add-i : tie.Need-add-i Inv-loop μ-loop
 add-i c = search needs
@@ -49,8 +50,11 @@ loop-again c =
     let a = s .args in
     let l = c .before .before .before .before .before .before .before .loop in
     let r = c .before .before .before .before .before .one-start in
-    let w = c .before .before .before .put-start in
-    (w .kept .0 ∙ l .inv .0, laws.turned-more (a .n) (a .e) (a .left .now) (a .right .now) (a .first .now) (a .code .now) (l .i) (l .ws) (w .last .0) (l .rounds) (r .result) (l .inv .1) (c .before .before .before .before .before .before .loop-test .taken) (w .ensures .1) (r .ensures .1 .0) (r .ensures .0) (w .ensures .0))
+    let w = c .before .before .before .put-start in (
+      w .kept .0 ∙ l .inv .0,
+      laws.turned-more (a .n) (a .e) (a .e + 2) _ (λ K S T k. (k .stationed, k .counted)) (l .i) (l .ws) (w .last .0) (l .rounds) (r .result .rounds) (l .inv .1) (c .before .before .before .before .before .before .loop-test .taken) (w .ensures .1) (r .ensures .1 .0)
+          (λ K S T k j m h e. let o = r .ensures .0 K S T j m (k .both) (k .clocks-are) (k .counted) h e in (w .ensures .0 K _ (k .both .small) (k .stationed) (k .offsets) (o .reached), o .rounds)),
+    )
 
 same-length : tie.Need-same-length Inv-loop μ-loop
 same-length c = search needs
@@ -60,7 +64,7 @@ returns c =
     let a = c .before .before .before .args in
     let l = c .before .loop in
     let q : l .i ≡ suc (a .e) = omega (arith, l .inv .1 .in-range, c .loop-test .left) in (
-      λ K S T k. laws.turned-all (a .n) (a .e) (a .left .now) (a .right .now) (a .first .now) (a .code .now) (l .i) (l .ws) (l .rounds) q (l .inv .1) K S T k,
+      λ K S T k. laws.turned-all (a .n) (a .e) (a .e + 2) _ (λ K S T k. (k .stationed, k .counted)) (l .i) (l .ws) (l .rounds) q (l .inv .1) K S T k,
       omega (arith, l .inv .1 .few, ap (λ (x : ℕ). x * (a .e + 2)) (q ∙ sym (add-one (a .e)))),
     )
 
