@@ -1,2 +1,3 @@
 pub mod Tables
 mod One
+mod Ways

@@ -92,6 +92,7 @@ module _ (K : Computation) (x : Shape) (starts : List ℕ) (laid : Laid K x star
     small = laid-small;
     stationed = laid .stationed;
     counted = laid .counted;
+    counts-are = laid .counts-are;
     offs-are = laid-offs;
     clocks-are = λ j k h. subst (λ (o : Option Cut). Says K o (take 8 (drop (8 * number K j k) first))) (row-clock j k h) (s j k h);
   }

@@ -11,7 +11,7 @@ use Rattle.structure.specs.declared.Shape.{Shape}
 use Rattle.structure.specs.Layout.{structureAt, standing, barsAt}
 use Rattle.structure.specs.Marks.{Mark}
 use Rattle.slots.specs.Slots.{Small, Slots}
-use Rattle.rounds.specs.Pair.{Clocks}
+use Rattle.rounds.specs.Pair.{Clocks, Intersected}
 use Rattle.pair.specs.declared.Pair.{Pair}
 
 -- Structure i of those that stand in w and b, and k of them from structure i on.
@@ -35,6 +35,7 @@ pub record Begun (x : Shape) (first : List ℕ) (K : Computation) : Type 0 where
   pub small : Small K
   pub stationed : stations K ≡ x .n
   pub counted : eventCount K ≡ x .e
+  pub counts-are : take (x .n) (x .counts) ≡ full K
   pub offs-are : (j : ℕ) → j < x .n → getD (x .offs) j 0 ≡ total (take j (full K))
   pub clocks-are : Clocks K first
 
@@ -47,13 +48,24 @@ pub record OnePair (x : Shape) (p : Pair) (left first w b : List ℕ) (K : Compu
   pub mark-left : Mark K (p .leftmark) (structureOf (x .n) (x .e) K w b (p .left))
   pub mark-right : Mark K (p .rightmark) (structureOf (x .n) (x .e) K w b (p .right))
 
--- Room for a pair; marks of the stations that there are.
-pub record OneReady (x : Shape) (p : Pair) (w b : List ℕ) : Type 0 where
+-- A pair in the workspace: both structures before the new one, for which there is room; marks of the stations that there are.
+pub record Placed (x : Shape) (p : Pair) (w : List ℕ) : Type 0 where
   pub left : p .left < p .to
   pub right : p .right < p .to
   pub cells-fit : (p .to + 1) * ((x .e + 1) * x .n) ≤ length w
-  pub bars-fit : (p .to + 1) * (16 * x .n) ≤ length b
   pub small : p .to ≤ 300
-  pub bars : length (barsAt (x .n) 16 (drop (p .left * (16 * x .n)) b)) + length (barsAt (x .n) 16 (drop (p .right * (16 * x .n)) b)) ≤ 16
   pub within-left : p .leftmark ≤ x .n
   pub within-right : p .rightmark ≤ x .n
+
+-- The same with room for the bars of both.
+pub record OneReady (x : Shape) (p : Pair) (w b : List ℕ) : Type 0 where
+  pub placed : Placed x p w
+  pub bars-fit : (p .to + 1) * (16 * x .n) ≤ length b
+  pub bars : length (barsAt (x .n) 16 (drop (p .left * (16 * x .n)) b)) + length (barsAt (x .n) 16 (drop (p .right * (16 * x .n)) b)) ≤ 16
+
+-- The intersection of a pair stands where it goes, with r rounds; what stands before it is as it was.
+pub record IntersectedAt (x : Shape) (p : Pair) (left first w w₂ : List ℕ) (r : ℕ) : Type 0 where
+  pub is : (b : List ℕ) (K : Computation) → OnePair x p left first w b K
+      → Intersected K (structureOf (x .n) (x .e) K w b (p .left)) (structureOf (x .n) (x .e) K w b (p .right)) (x .n) (drop (p .to * ((x .e + 1) * x .n)) w₂) r
+  pub small : r ≤ (x .e + 1) * (x .e + 5)
+  pub front : take (p .to * ((x .e + 1) * x .n)) w₂ ≡ take (p .to * ((x .e + 1) * x .n)) w

@@ -1,15 +1,13 @@
 // One pair of structures of two bases: its intersection, and whether it is kept.
+use cells::wide;
 use structure::Shape;
 ghost use mathlib.Core.Path.{_≡_};
-ghost use mathlib.Core.List.{List};
-ghost use Prim.Native.Nat.{ℕ, _+_, _*_, _≤_, _<_};
-ghost use lib.ListN.{length, take, drop};
+ghost use Prim.Native.Nat.{_+_, _*_, _≤_};
+ghost use lib.ListN.{length};
 ghost use Rattle.model.specs.Basis.{intersect};
 ghost use Rattle.model.specs.Rounds.{roundsOfPair};
-ghost use Rattle.model.specs.Computation.{Computation};
-ghost use Rattle.rounds.specs.Pair.{Intersected};
 ghost use Rattle.structure.specs.Shaped.{Shaped};
-ghost use Rattle.pair.specs.Post.{structureOf, Put, OnePair, OneReady};
+ghost use Rattle.pair.specs.Post.{structureOf, Put, Placed, OnePair, OneReady, IntersectedAt};
 
 // How many pairs were kept, and the rounds of all.
 pub struct Pairs {
@@ -26,7 +24,37 @@ pub struct Pair {
     pub rightmark: u8,
 }
 
-// The intersection of a pair whose left structure stands in a table, and its rounds.
+// The intersection of a pair whose left structure stands in a table, and its rounds: the right one is put into a table too, and the left set goes by
+// its station if it is marked.
+fn by_tables(
+    ws: &mut [u8],
+    left: &[u8; 2048],
+    right: &mut [u8; 2048],
+    first: &[u8; 2048],
+    p: Pair,
+    x: Shape,
+) -> u32
+    requires { ⌜ Shaped x ⌝ }
+    requires { ⌜ Placed x p (now ws) ⌝ }
+    requires { ⌜ (length (now left) ≡ 2048) × (length (now right) ≡ 2048) × (length (now first) ≡ 2048) ⌝ }
+    ensures { λ r. ⌜ IntersectedAt x p (now (left .entry)) (now (first .entry)) (now (ws .entry)) (now (ws .exit)) r × (length (now (right .exit)) ≡ 2048) ⌝ }
+{
+    let n = x.n;
+    let e = x.e;
+    let offs = x.offs;
+    let size = (e + 1) * n;
+    let from = p.right * size;
+    let at = p.to * size;
+    let m = p.leftmark;
+    let code = slots::coding(n, &offs);
+    slots::put_rows(right, ws, from, n, e, &code);
+    if m == 0 {
+        return rounds::intersect(&mut ws[at..], left, right, first, n, e, &code);
+    }
+    chains::intersect_left(&mut ws[at..], left, right, first, x, wide(m) - 1)
+}
+
+// The same; a right set that is marked goes by its station, from the workspace.
 fn intersect_at(
     ws: &mut [u8],
     left: &[u8; 2048],
@@ -36,21 +64,16 @@ fn intersect_at(
     x: Shape,
 ) -> u32
     requires { ⌜ Shaped x ⌝ }
-    requires { ⌜ (p .right < p .to) × (p .to ≤ 300) × ((p .to + 1) * ((x .e + 1) * x .n) ≤ length (now ws)) ⌝ }
+    requires { ⌜ Placed x p (now ws) ⌝ }
     requires { ⌜ (length (now left) ≡ 2048) × (length (now right) ≡ 2048) × (length (now first) ≡ 2048) ⌝ }
-    ensures { λ r. ⌜ ((b : List ℕ) (K : Computation) → OnePair x p (now (left .entry)) (now (first .entry)) (now (ws .entry)) b K
-        → Intersected K (structureOf (x .n) (x .e) K (now (ws .entry)) b (p .left)) (structureOf (x .n) (x .e) K (now (ws .entry)) b (p .right)) (x .n) (drop (p .to * ((x .e + 1) * x .n)) (now (ws .exit))) r) ⌝ }
-    ensures { λ r. ⌜ (r ≤ (x .e + 1) * (x .e + 5)) × (take (p .to * ((x .e + 1) * x .n)) (now (ws .exit)) ≡ take (p .to * ((x .e + 1) * x .n)) (now (ws .entry))) × (length (now (right .exit)) ≡ 2048) ⌝ }
+    ensures { λ r. ⌜ IntersectedAt x p (now (left .entry)) (now (first .entry)) (now (ws .entry)) (now (ws .exit)) r × (length (now (right .exit)) ≡ 2048) ⌝ }
 {
-    let n = x.n;
-    let e = x.e;
-    let offs = x.offs;
-    let size = (e + 1) * n;
-    let from = p.right * size;
-    let at = p.to * size;
-    let code = slots::coding(n, &offs);
-    slots::put_rows(right, ws, from, n, e, &code);
-    rounds::intersect(&mut ws[at..], left, right, first, n, e, &code)
+    let m = p.rightmark;
+    if m == 0 {
+        return by_tables(ws, left, right, first, p, x);
+    }
+    let size = (x.e + 1) * x.n;
+    chains::intersect_right(ws, p.right * size, p.to * size, left, first, x, wide(m) - 1)
 }
 
 // A pair whose left structure stands in a table: kept if its set is not empty and its greatest cut is contained in no bar.

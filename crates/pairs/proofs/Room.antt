@@ -32,14 +32,16 @@ one-ready x q c j P w₀ w b₀ b X Y s z R p lw lb h k =
     let y : q .right + j < q .to = omega (arith, R .right) in
     let kept = bars-kept (x .n) (x .e) (q .to) z w w₀ b b₀ (p .cells-kept) (p .bars-kept) in
     record {
-      left = omega (arith, R .left);
-      right = omega arith;
-      cells-fit = omega (arith, mul-le-mul-right ((x .e + 1) * x .n) t, R .cells-fit);
+      placed = record {
+        left = omega (arith, R .left);
+        right = omega arith;
+        cells-fit = omega (arith, mul-le-mul-right ((x .e + 1) * x .n) t, R .cells-fit);
+        small = omega (arith, R .small);
+        within-left = R .within-left;
+        within-right = R .within-right j;
+      };
       bars-fit = omega (arith, mul-le-mul-right (16 * x .n) t, R .bars-fit);
-      small = omega (arith, R .small);
       bars = omega (arith, ap length (kept (q .left) (R .left)), ap length (kept (q .right + j) y), R .bars j h);
-      within-left = R .within-left;
-      within-right = R .within-right j;
     }
 
 -- The left structure of a row.

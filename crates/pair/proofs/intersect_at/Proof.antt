@@ -1,19 +1,18 @@
--- `pair::intersect_at` meets its contract: the right structure stands in a table too, and the rows go to their place.
-use mathlib.Core.Path.{_≡_, sym, ap, subst, _∙_}
-use Prim.Native.Nat.{ℕ, _+_, _*_, _≤_}
+-- `pair::intersect_at` meets its contract: a right set that is marked is of the station that its mark says.
 use native.Mathlib.Omega.{arith}
-use mathlib.Core.List.{List}
-use lib.ListN.{length, take, drop}
-use lib.Seq.{take-at, drop-at, length-take-le}
-use Rattle.model.specs.Structure.{row}
-use Rattle.cells.proofs.Parts.{put-end}
-use Rattle.structure.proofs.Places.{one-more, next-fits}
-use Rattle.pair.proofs.Tables as laws
-use Rattle.rounds.specs.Pair.{Intersected}
-use Rattle.pair.specs.Post.{structureOf}
+use Rattle.pair.proofs.Ways as ways
 use borrow.Author.Needs.{needs}
 use Rattle.pair.proofs.intersect_at.Statement.{statement}
 use Rattle.pair.proofs.intersect_at.Tie as tie
+
+by-tables-requires : tie.Need-by-tables-requires
+by-tables-requires c κs = search needs
+
+same-length : tie.Need-same-length
+same-length c = search needs
+
+returns : tie.Need-returns
+returns c = search needs
 
 add-size : tie.Need-add-size
 add-size c = search needs
@@ -21,83 +20,52 @@ add-size c = search needs
 mul-size : tie.Need-mul-size
 mul-size c = search needs
 
-mul-from : tie.Need-mul-from
-mul-from c =
-    let s = c .before .before .before in
+mul-intersect-right : tie.Need-mul-intersect-right
+mul-intersect-right c =
+    let s = c .before .before .before .before .before .before in
     let a = s .args in
-    let size : ℕ = (a .x .e + 1) * a .x .n in
-    omega (arith, next-fits (a .p .right) (a .p .to) size (s .pre .1 .0 .0), one-more (a .p .to) size, s .pre .1 .0 .2)
+    omega (arith, ways.right-before (a .x) (a .p) (a .ws .now) (s .pre .1 .0), ways.new-fits (a .x) (a .p) (a .ws .now) (s .pre .1 .0))
 
-mul-at : tie.Need-mul-at
-mul-at c = search needs
+mul-intersect-right-2 : tie.Need-mul-intersect-right-2
+mul-intersect-right-2 c = search needs
 
-coding-requires : tie.Need-coding-requires
-coding-requires c κs = search needs
+wide-requires : tie.Need-wide-requires
+wide-requires c κs = search needs
 
-put-rows-requires : tie.Need-put-rows-requires
-put-rows-requires c κs =
-    let s = c .before .before .before .before .before .before .before .before .before in
+sub-intersect-right : tie.Need-sub-intersect-right
+sub-intersect-right c = search needs
+
+intersect-right-requires : tie.Need-intersect-right-requires
+intersect-right-requires c κs =
+    let s = c .before .before .before .before .before .before .before .before in
     let a = s .args in
-    let size : ℕ = (a .x .e + 1) * a .x .n in
-    (s .pre .1 .1 .1, s .pre .0 .few-stations, omega (arith, s .pre .0 .few-events), omega (arith, next-fits (a .p .right) (a .p .to) size (s .pre .1 .0 .0), one-more (a .p .to) size, s .pre .1 .0 .2), c .before .before .before .coding .ensures .0)
+    let m = ways.station-of (a .x) (a .p) (a .ws .now) (s .pre .1 .0) (a .p .rightmark) (c .wide .result) (s .pre .1 .0 .within-right) (c .before .before .before .before .before .before .if1 .left) (c .wide .ensures .0) in
+    (s .pre .0, (m .0, s .pre .1 .1 .0, s .pre .1 .1 .2, ways.right-before (a .x) (a .p) (a .ws .now) (s .pre .1 .0), ways.new-fits (a .x) (a .p) (a .ws .now) (s .pre .1 .0)))
 
-sub-intersect : tie.Need-sub-intersect
-sub-intersect c = search needs
+same-length-2 : tie.Need-same-length-2
+same-length-2 c = search needs
 
-part-intersect-start : tie.Need-part-intersect-start
-part-intersect-start c = search needs
-
-part-intersect-end : tie.Need-part-intersect-end
-part-intersect-end c = search needs
-
-intersect-requires : tie.Need-intersect-requires
-intersect-requires c κs = search needs
-
-same-length : tie.Need-same-length
-same-length c = search needs
-
-returns : tie.Need-returns
-returns c =
-    let s = c .before .before .before .before .before .before .before .before .before .before .before .before .before .before .before .before in
+returns-2 : tie.Need-returns-2
+returns-2 c =
+    let s = c .before .before .before .before .before .before .before .before .before .before .before in
     let a = s .args in
-    let n : ℕ = a .x .n in
-    let e : ℕ = a .x .e in
-    let size : ℕ = (e + 1) * n in
-    let at : ℕ = a .p .to * size in
-    let w = a .ws .now in
-    let r = c .before .before .intersect in
-    let t = c .before .before .before .before .before .before .put-rows in
-    let code = c .before .before .before .before .before .before .before .before .before .before .coding .result in
-    let room : at ≤ length w = omega (arith, one-more (a .p .to) size, s .pre .1 .0 .2) in
-    let long : length (take at w) ≡ at = length-take-le at w room in
-    let whole = put-end at w (r .last .0) room in (
-      λ b K h.
-          let o = laws.offsets-are (a .x) K code (h .begun .stationed) (h .begun .offs-are) (c .before .before .before .before .before .before .before .before .before .before .coding .ensures .1) in
-          let right = t .ensures .1 K (row (structureOf n e K w b (a .p .right))) (h .begun .small) (h .begun .stationed) (h .begun .counted) o (laws.structure-rows K (h .begun .small) n e (h .begun .stationed) w b (a .p .right) (h .good-right)) in
-          subst (λ (l : List ℕ). Intersected K (structureOf n e K w b (a .p .left)) (structureOf n e K w b (a .p .right)) n l (r .result)) (sym (ap (drop at) whole ∙ drop-at (take at w) (r .last .0) at long))
-          (r .ensures .0 K (structureOf n e K w b (a .p .left)) (structureOf n e K w b (a .p .right)) (record {
-            both = record { small = h .begun .small; good-left = h .good-left; good-right = h .good-right; slots-left = h .slots-left; slots-right = right };
-            clocks-are = h .begun .clocks-are;
-            offsets = o;
-            stationed = h .begun .stationed;
-            counted = h .begun .counted;
-          })),
-      (laws.looser e (r .result) (r .ensures .1), ap (take at) whole ∙ take-at (take at w) (r .last .0) at long, t .ensures .0),
-    )
+    let r = c .before .before .intersect-right in
+    let m = ways.station-of (a .x) (a .p) (a .ws .now) (s .pre .1 .0) (a .p .rightmark) (c .before .before .before .wide .result) (s .pre .1 .0 .within-right) (c .before .before .before .before .before .before .before .before .before .if1 .left) (c .before .before .before .wide .ensures .0) in
+    (record { is = λ b K h. r .ensures .0 K _ _ (ways.right-known (a .x) (a .p) (a .left .now) (a .first .now) (a .ws .now) b K h _ (m .1)); small = r .ensures .1 .0; front = r .ensures .1 .1 }, s .pre .1 .1 .1)
 
 pub intersect-at-spec : {M : Type 1} → statement M
 intersect-at-spec =
     tie.close
     (tie.spec
+    by-tables-requires
+    same-length
+    returns
     add-size
     mul-size
-    mul-from
-    mul-at
-    coding-requires
-    put-rows-requires
-    sub-intersect
-    part-intersect-start
-    part-intersect-end
-    intersect-requires
-    same-length
-    returns)
+    mul-intersect-right
+    mul-intersect-right-2
+    wide-requires
+    sub-intersect-right
+    intersect-right-requires
+    same-length-2
+    returns-2)

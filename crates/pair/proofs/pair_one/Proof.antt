@@ -27,13 +27,13 @@ mul-join-bars : tie.Need-mul-join-bars
 mul-join-bars c =
     let a = c .before .before .before .before .before .before .before .before .args in
     let r = c .before .before .before .before .before .before .before .before .pre .1 .0 in
-    omega (arith, next-fits (a .p .left) (a .p .to) (16 * a .x .n) (r .left), next-fits (a .p .right) (a .p .to) (16 * a .x .n) (r .right), one-more (a .p .to) (16 * a .x .n), r .bars-fit)
+    omega (arith, next-fits (a .p .left) (a .p .to) (16 * a .x .n) (r .placed .left), next-fits (a .p .right) (a .p .to) (16 * a .x .n) (r .placed .right), one-more (a .p .to) (16 * a .x .n), r .bars-fit)
 
 mul-join-bars-2 : tie.Need-mul-join-bars-2
 mul-join-bars-2 c =
     let a = c .before .before .before .before .before .before .before .before .args in
     let r = c .before .before .before .before .before .before .before .before .pre .1 .0 in
-    omega (arith, next-fits (a .p .left) (a .p .to) (16 * a .x .n) (r .left), next-fits (a .p .right) (a .p .to) (16 * a .x .n) (r .right), one-more (a .p .to) (16 * a .x .n), r .bars-fit)
+    omega (arith, next-fits (a .p .left) (a .p .to) (16 * a .x .n) (r .placed .left), next-fits (a .p .right) (a .p .to) (16 * a .x .n) (r .placed .right), one-more (a .p .to) (16 * a .x .n), r .bars-fit)
 
 mul-join-bars-3 : tie.Need-mul-join-bars-3
 mul-join-bars-3 c = search needs
@@ -43,7 +43,7 @@ join-bars-requires c κs =
     let s = c .before .before .before .before .before .before .before .before in
     let a = s .args in
     let r = s .pre .1 .0 in
-    (s .pre .0 .some-station, s .pre .0 .few-stations, next-fits (a .p .left) (a .p .to) (16 * a .x .n) (r .left), next-fits (a .p .right) (a .p .to) (16 * a .x .n) (r .right), omega (arith, one-more (a .p .to) (16 * a .x .n), r .bars-fit), r .bars)
+    (s .pre .0 .some-station, s .pre .0 .few-stations, next-fits (a .p .left) (a .p .to) (16 * a .x .n) (r .placed .left), next-fits (a .p .right) (a .p .to) (16 * a .x .n) (r .placed .right), omega (arith, one-more (a .p .to) (16 * a .x .n), r .bars-fit), r .bars)
 
 slice-read-if1 : tie.Need-slice-read-if1
 slice-read-if1 c = search needs
@@ -62,11 +62,11 @@ returns c =
     let b = c .before .before .before .before .join-bars in (
       (
         omega arith,
-        x .ensures .1 .0,
+        x .ensures .0 .small,
         one.one-empty (a .x .n) (a .x .e) (s .pre .0 .some-station) (OnePair (a .x) (a .p) (a .left .now) (a .first .now) (a .ws .now) (a .bs .now)) (λ K h. h .begun .counted) (λ K h. h .begun .stationed)
-            (a .p .left) (a .p .right) (a .p .to) (a .ws .now) (x .last .0) (a .bs .now) (b .last .0) (x .result) (x .ensures .0 (a .bs .now)) (x .ensures .1 .1) (b .ensures) (c .if1 .taken),
+            (a .p .left) (a .p .right) (a .p .to) (a .ws .now) (x .last .0) (a .bs .now) (b .last .0) (x .result) (x .ensures .0 .is (a .bs .now)) (x .ensures .0 .front) (b .ensures) (c .if1 .taken),
       ),
-      x .ensures .1 .2,
+      x .ensures .1,
     )
 
 mul-barred-out : tie.Need-mul-barred-out
@@ -89,11 +89,11 @@ returns-2 c =
     let b = c .before .before .before .before .before .before .before .before .join-bars in (
       (
         omega arith,
-        x .ensures .1 .0,
+        x .ensures .0 .small,
         one.one-dropped (a .x .n) (a .x .e) (s .pre .0 .some-station) (OnePair (a .x) (a .p) (a .left .now) (a .first .now) (a .ws .now) (a .bs .now)) (λ K h. h .begun .counted) (λ K h. h .begun .stationed)
-            (a .p .left) (a .p .right) (a .p .to) (a .ws .now) (x .last .0) (a .bs .now) (b .last .0) (x .result) (x .ensures .0 (a .bs .now)) (x .ensures .1 .1) (b .ensures) (c .before .before .before .before .if1 .left) (c .before .barred-out .result) (c .before .barred-out .ensures) (c .if2 .taken),
+            (a .p .left) (a .p .right) (a .p .to) (a .ws .now) (x .last .0) (a .bs .now) (b .last .0) (x .result) (x .ensures .0 .is (a .bs .now)) (x .ensures .0 .front) (b .ensures) (c .before .before .before .before .if1 .left) (c .before .barred-out .result) (c .before .barred-out .ensures) (c .if2 .taken),
       ),
-      x .ensures .1 .2,
+      x .ensures .1,
     )
 
 same-length-5 : tie.Need-same-length-5
@@ -110,11 +110,11 @@ returns-3 c =
     let b = c .before .before .before .before .before .before .before .before .join-bars in (
       (
         omega arith,
-        x .ensures .1 .0,
+        x .ensures .0 .small,
         one.one-kept (a .x .n) (a .x .e) (s .pre .0 .some-station) (OnePair (a .x) (a .p) (a .left .now) (a .first .now) (a .ws .now) (a .bs .now)) (λ K h. h .begun .counted) (λ K h. h .begun .stationed)
-            (a .p .left) (a .p .right) (a .p .to) (a .ws .now) (x .last .0) (a .bs .now) (b .last .0) (x .result) (x .ensures .0 (a .bs .now)) (x .ensures .1 .1) (b .ensures) (c .before .before .before .before .if1 .left) (c .before .barred-out .result) (c .before .barred-out .ensures) (c .if2 .left),
+            (a .p .left) (a .p .right) (a .p .to) (a .ws .now) (x .last .0) (a .bs .now) (b .last .0) (x .result) (x .ensures .0 .is (a .bs .now)) (x .ensures .0 .front) (b .ensures) (c .before .before .before .before .if1 .left) (c .before .barred-out .result) (c .before .barred-out .ensures) (c .if2 .left),
       ),
-      x .ensures .1 .2,
+      x .ensures .1,
     )
 
 pub pair-one-spec : {M : Type 1} → statement M
