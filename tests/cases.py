@@ -2,7 +2,7 @@
 """Makes the cases of the program crates/cases, and what it is to print for each.
 
 Usage: cases.py FOLDER [SEED]      writes FOLDER/stdin and FOLDER/stdout; the same arguments give the same bytes
-The corpus comes first.
+The corpus comes first: mutants.py takes it from there.
 """
 import pathlib
 import sys

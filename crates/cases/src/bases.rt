@@ -34,7 +34,7 @@ fn print_structure(ws: &[u8], at: usize, bs: &[u8], bar: usize, n: usize, e: usi
     trial::print_line(b"least", &ws[at..at + n]);
     let mut greatest = [0u8; 8];
     structure::greatest(ws, at, n, e, &mut greatest);
-    trial::print_line(b"greatest", &greatest[..n]);
+    trial::print_line(b"greatest", &greatest[0..n]);
     print_bars(bs, bar, n);
 }
 

@@ -60,7 +60,7 @@ fn print_case(log: &[u8]) {
     io::write_all(1, b"\n");
     let mut out = [0u8; print::PRINTED];
     let m = print::print_log(log, &mut out);
-    io::write_all(1, &out[..m]);
+    io::write_all(1, &out[0..m]);
 }
 
 // Runs a case in what is lent to it.
@@ -114,9 +114,9 @@ fn lend(c: Case, cut: &[u8], data: &[u8]) {
         c,
         cut,
         data,
-        &mut ws[..cells],
-        &mut bs[..bars],
-        &mut out[..size],
+        &mut ws[0..cells],
+        &mut bs[0..bars],
+        &mut out[0..size],
     );
 }
 
