@@ -30,7 +30,7 @@ use Rattle.lattice.proofs.Size.{basis-bars-at, narrow-both}
 use Rattle.lattice.proofs.Held.{held-both}
 use Rattle.structure.proofs.Places.{one-more, cells-are}
 use Rattle.structure.proofs.Standing.{standing-same, length-standing}
-use Rattle.modal.specs.Post.{Least}
+use Rattle.modal.specs.Post.{Present}
 use Rattle.cells.proofs.Parts.{put-end}
 use Rattle.modal.proofs.Laws.{part-room}
 use Rattle.token.specs.Signed.{twoToken, joinedBasis, joinedRounds}
@@ -185,7 +185,7 @@ module _ (s b : Bool) (shape : Shape) (q q′ starts values : List ℕ) (w₀ b�
         right-stands =
             ap₂ (standing (shape .n) (full K) c₂) (ap (drop (c * size)) w-is ∙ drop-at (take (c * size) w) p (c * size) lw₁) (ap (drop (c * slot)) b-is ∙ drop-at (take (c * slot) bs) pb (c * slot) lb₁)
 
-      pub least-both : Least size (c + c₂) w₃
+      pub least-both : Present size (c + c₂) w₃
       least-both i h f = go (ltb i c) refl
         where
           z : 0 < size

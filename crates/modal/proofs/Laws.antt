@@ -28,7 +28,7 @@ use Rattle.steps.proofs.Parts.{row-zero, row-suc, rows-more}
 use Rattle.steps.proofs.Built.{start-there, build-there, keep-free, no-bars}
 use Rattle.steps.proofs.Atoms.{not-both}
 use Rattle.structure.proofs.Standing.{standing-same, standing-add}
-use Rattle.modal.specs.Post.{Least, Lowered, Possible, Impossible}
+use Rattle.modal.specs.Post.{Present, Lowered, Possible, Impossible}
 
 -- ROWS BELOW A CUT
 
@@ -101,7 +101,7 @@ module _ (shape : Shape) (i : ℕ) (starts w w₁ p b b₁ q : List ℕ) (z : 0 
   bars-more : drop ((i + 1) * (16 * shape .n)) b₂ ≡ drop ((i + 1) * (16 * shape .n)) b
   bars-more = behind-more (i * (16 * shape .n)) (16 * shape .n) ((i + 1) * (16 * shape .n)) b₁ q b hb (one-more i (16 * shape .n)) (one .bars-behind) (done .bars-behind)
 
-  least-more : Least ((shape .e + 1) * shape .n) (i + 1) w₂
+  least-more : Present ((shape .e + 1) * shape .n) (i + 1) w₂
   least-more j h f = go (ltb j i) refl
     where
       l : length (take (i * ((shape .e + 1) * shape .n)) w₁) ≡ i * ((shape .e + 1) * shape .n)
@@ -265,7 +265,7 @@ all-rows n e starts w w₂ l q i k =
     part-same ((e + 1) * n) w₂ starts (ap (take ((e + 1) * n)) q ∙ paste-part w 0 starts ((e + 1) * n) (omega arith) l) (i * n) n (row-fits i e n k)
 
 module _ (shape : Shape) (k : ℕ) (starts w w₂ b b₁ b₂ : List ℕ) (z : 0 < shape .n) (few : k ≤ 16) (hs : (shape .e + 1) * shape .n ≤ length starts)
-    (there : getD starts 0 0 ≡ 255 → ⊥) (firsts : Least ((shape .e + 1) * shape .n) k w)
+    (there : getD starts 0 0 ≡ 255 → ⊥) (firsts : Present ((shape .e + 1) * shape .n) k w)
     (rows : (i : ℕ) → i < k → (counts d : List ℕ) → total counts ≡ shape .e → rowAt (shape .n) i b₁ ≡ greatest (structureAt (shape .n) counts (drop (i * ((shape .e + 1) * shape .n)) w) d))
     (end : Ended 0 k (shape .n) b₁ b₂) (q : w₂ ≡ paste w 0 (drop 0 starts) ((shape .e + 1) * shape .n)) where
   first-all : getD w₂ 0 0 ≡ 255 → ⊥

@@ -11,8 +11,8 @@ use Rattle.structure.specs.declared.Shape.{Shape}
 use Rattle.structure.specs.Laid.{Laid}
 
 -- The first cell of each of k structures is not 255: their least cuts are there.
-abbrev pub Least : ℕ → ℕ → List ℕ → Type 0
-Least size k ws = (i : ℕ) → i < k → getD ws (i * size) 0 ≡ 255 → ⊥
+abbrev pub Present : ℕ → ℕ → List ℕ → Type 0
+Present size k ws = (i : ℕ) → i < k → getD ws (i * size) 0 ≡ 255 → ⊥
 
 -- The structure at the front of w and b becomes the one at the front of w₂ and b₂, and nothing behind it changes.
 pub record Lowered (x : Shape) (starts w w₂ b b₂ : List ℕ) : Type 0 where
@@ -24,12 +24,12 @@ pub record Lowered (x : Shape) (starts w w₂ b b₂ : List ℕ) : Type 0 where
 -- possibly: of the k structures at the front; nothing behind them changes.
 pub record Possible (x : Shape) (k : ℕ) (starts w w₂ b b₂ : List ℕ) : Type 0 where
   pub stands : (K : Computation) → Laid K x starts → standing (x .n) (full K) k w₂ b₂ ≡ lowered K (standing (x .n) (full K) k w b)
-  pub least : Least ((x .e + 1) * x .n) k w₂
+  pub least : Present ((x .e + 1) * x .n) k w₂
   pub cells-behind : drop (k * ((x .e + 1) * x .n)) w₂ ≡ drop (k * ((x .e + 1) * x .n)) w
   pub bars-behind : drop (k * (16 * x .n)) b₂ ≡ drop (k * (16 * x .n)) b
 
 -- not possibly
 pub record Impossible (x : Shape) (k r : ℕ) (starts w w₂ b b₂ : List ℕ) : Type 0 where
   pub stands : (K : Computation) → Laid K x starts → standing (x .n) (full K) r w₂ b₂ ≡ barred K (standing (x .n) (full K) k w b)
-  pub least : Least ((x .e + 1) * x .n) r w₂
+  pub least : Present ((x .e + 1) * x .n) r w₂
   pub few : r ≤ 1

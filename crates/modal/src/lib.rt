@@ -11,7 +11,7 @@ ghost use Rattle.model.specs.Structure.{greatest};
 ghost use Rattle.structure.specs.Layout.{structureAt};
 ghost use Rattle.structure.specs.Shaped.{Shaped};
 ghost use Rattle.steps.specs.Rows.{rowAt, belowRow};
-ghost use Rattle.modal.specs.Post.{Least, Lowered, Possible, Impossible};
+ghost use Rattle.modal.specs.Post.{Present, Lowered, Possible, Impossible};
 
 // Row i of all cuts that are contained in g.
 fn below_row(ws: &mut [u8], i: usize, n: usize, e: usize, g: &[u8], starts: &[u8])
@@ -93,7 +93,7 @@ fn bar_each(ws: &[u8], bs: &mut [u8], count: usize, n: usize, e: usize)
 pub fn bar(ws: &mut [u8], bs: &mut [u8], count: usize, x: Shape, starts: &[u8]) -> usize
     requires { ⌜ Shaped x ⌝ }
     requires { ⌜ (count ≤ 16) × (count * ((x .e + 1) * x .n) ≤ length (now ws)) × ((x .e + 1) * x .n ≤ length (now ws)) × (16 * x .n ≤ length (now bs)) × ((x .e + 1) * x .n ≤ length (now starts)) × (getD (now starts) 0 0 ≡ 255 → ⊥) ⌝ }
-    requires { ⌜ Least ((x .e + 1) * x .n) count (now ws) ⌝ }
+    requires { ⌜ Present ((x .e + 1) * x .n) count (now ws) ⌝ }
     ensures { λ r. ⌜ Impossible x count r (now (starts .entry)) (now (ws .entry)) (now (ws .exit)) (now (bs .entry)) (now (bs .exit)) ⌝ }
 {
     let n = x.n;

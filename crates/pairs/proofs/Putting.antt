@@ -19,7 +19,7 @@ use Rattle.lattice.proofs.Sums.{sum-snoc}
 use Rattle.cells.proofs.Parts.{front-same, part-same, cell-same, paste-part}
 use Rattle.structure.proofs.Places.{one-more, cells-are, next-fits}
 use Rattle.structure.proofs.Standing.{structure-same, standing-same, standing-add}
-use Rattle.modal.specs.Post.{Least}
+use Rattle.modal.specs.Post.{Present}
 use Rattle.modal.proofs.Laws.{each-append}
 use Rattle.structure.specs.declared.Shape.{Shape}
 use Rattle.structure.specs.declared.Sets.{Sets}
@@ -207,7 +207,7 @@ module _ (n e : ℕ) where
         (ap (λ (x : ℕ). take (c * x) w₂) (cells-is z K (num K h)) ∙ ew ∙ ap (λ (x : ℕ). take (c * x) (drop (o * size) w₁)) (sym (cells-is z K (num K h)))) eb
         ∙ p .stands K h
 
-    pub moved-least : Least size c w₂
+    pub moved-least : Present size c w₂
     moved-least j h f =
         let q : 0 < size = omega (arith, one-more e n) in
         let k : j * size < c * size = omega (arith, next-fits j c size h) in

@@ -12,7 +12,7 @@ use Rattle.structure.specs.declared.Shape.{Shape}
 use Rattle.structure.specs.declared.Sets.{Sets}
 use Rattle.structure.specs.Marks.{Mark, Marked, Within}
 use Rattle.structure.specs.Layout.{standing, barsAt}
-use Rattle.modal.specs.Post.{Least}
+use Rattle.modal.specs.Post.{Present}
 use Rattle.structure.specs.Laid.{Laid}
 use Rattle.pair.specs.Post.{structureOf, standingFrom, Begun}
 use Rattle.pairs.specs.declared.Row.{Row}
@@ -66,5 +66,5 @@ pub record Paired (x : Shape) (l r : Sets) (starts w w₂ b b₂ : List ℕ) (co
       → standing (x .n) (full K) count w₂ b₂ ≡ pairs K (standing (x .n) (full K) (l .count) w b) (standingFrom (x .n) (x .e) K w b (l .count) (r .count))
   pub summed : (K : Computation) → Laid K x starts → Bases x l r w b K
       → rounds ≡ roundsOfPairs K (standing (x .n) (full K) (l .count) w b) (standingFrom (x .n) (x .e) K w b (l .count) (r .count))
-  pub least : Least ((x .e + 1) * x .n) count w₂
+  pub least : Present ((x .e + 1) * x .n) count w₂
   pub small : rounds ≤ 16 * ((x .e + 1) * (x .e + 5))

@@ -27,7 +27,7 @@ use Rattle.steps.proofs.Parts.{row-zero}
 use Rattle.steps.proofs.Built.{first-row, start-there}
 use Rattle.structure.proofs.Places.{cells-are}
 use Rattle.structure.proofs.Standing.{standing-add, length-standing}
-use Rattle.modal.specs.Post.{Least, Possible, Impossible}
+use Rattle.modal.specs.Post.{Present, Possible, Impossible}
 use Rattle.token.specs.Signed.{twoToken, modalToken, joinedBasis, liftedBasis}
 use Rattle.structure.specs.declared.Shape.{Shape}
 use Rattle.structure.specs.declared.Sets.{Sets}
@@ -44,14 +44,14 @@ module _ (shape : Shape) (k : ℕ) (sets : Sets) (starts w w₂ b b₂ : List �
   pub lifted-wide : t ≡ true → sets .count ≡ k → Possible shape k starts w w₂ b b₂ → Lifted t shape k starts w w₂ b b₂ sets
   lifted-wide f g d = rw f (record {
     stands = λ K h. ap (λ (x : ℕ). standing (shape .n) (full K) x w₂ b₂) g ∙ d .stands K h;
-    least = subst (λ (x : ℕ). Least ((shape .e + 1) * shape .n) x w₂) (sym g) (d .least);
+    least = subst (λ (x : ℕ). Present ((shape .e + 1) * shape .n) x w₂) (sym g) (d .least);
     unmarked = u;
   })
 
   pub lifted-barred : (c : ℕ) → t ≡ false → sets .count ≡ c → Impossible shape k c starts w w₂ b b₂ → Lifted t shape k starts w w₂ b b₂ sets
   lifted-barred c f g d = rw f (record {
     stands = λ K h. ap (λ (x : ℕ). standing (shape .n) (full K) x w₂ b₂) g ∙ d .stands K h;
-    least = subst (λ (x : ℕ). Least ((shape .e + 1) * shape .n) x w₂) (sym g) (d .least);
+    least = subst (λ (x : ℕ). Present ((shape .e + 1) * shape .n) x w₂) (sym g) (d .least);
     unmarked = u;
   })
 
@@ -63,7 +63,7 @@ module _ (shape : Shape) (l r : Sets) (u v : ℕ) (starts w w₂ b b₂ : List �
     joined = record {
       stands = λ K laid a. ap (λ (x : ℕ). standing (shape .n) (full K) x w₂ b₂) g ∙ d .stands K laid a;
       summed = d .summed;
-      least = subst (λ (x : ℕ). Least ((shape .e + 1) * shape .n) x w₂) (sym g) (d .least);
+      least = subst (λ (x : ℕ). Present ((shape .e + 1) * shape .n) x w₂) (sym g) (d .least);
       marked = λ K L R h p q. subst (Marked K (joinedBasis true K L R)) (sym z) (none-marked K (joinedBasis true K L R) 16);
       within = subst (Within (shape .n)) (sym z) (none-within (shape .n) 16);
     };
@@ -72,7 +72,7 @@ module _ (shape : Shape) (l r : Sets) (u v : ℕ) (starts w w₂ b b₂ : List �
 
 -- One basis behind the other: nothing is moved.
 pub combined-all : (shape : Shape) (l r : Sets) (u v : ℕ) (starts w b : List ℕ) (sets : Sets) (sum : ℕ) (t : Bool) → t ≡ false → sets .count ≡ l .count + r .count → sum ≡ u + v
-    → Least ((shape .e + 1) * shape .n) (l .count + r .count) w → Within (shape .n) (sets .stations)
+    → Present ((shape .e + 1) * shape .n) (l .count + r .count) w → Within (shape .n) (sets .stations)
     → ((K : Computation) (L R : List Structure) → length L ≡ l .count → Marked K L (l .stations) → Marked K R (r .stations) → Marked K (L ++ R) (sets .stations))
     → Combined t shape l r u v starts w w b b sets sum
 combined-all shape l r u v starts w b sets sum t f g h least within marked = rw f (record {
@@ -84,7 +84,7 @@ combined-all shape l r u v starts w b sets sum t f g h least within marked = rw 
         ap (λ (y : ℕ). standing n (full K) y w b) g ∙ standing-add n (full K) (l .count) (r .count) w b
         ∙ ap (λ (y : ℕ). standing n (full K) (l .count) w b ++ standing n (full K) (r .count) (drop (l .count * y) w) (drop (l .count * barCells n) b)) x;
     summed = λ K laid a. refl;
-    least = subst (λ (x : ℕ). Least ((shape .e + 1) * shape .n) x w) (sym g) least;
+    least = subst (λ (x : ℕ). Present ((shape .e + 1) * shape .n) x w) (sym g) least;
     marked = marked;
     within = within;
   };

@@ -16,7 +16,7 @@ use Rattle.structure.specs.declared.Shape.{Shape}
 use Rattle.structure.specs.declared.Sets.{Sets}
 use Rattle.structure.specs.Marks.{Marked, Within}
 use Rattle.structure.specs.Laid.{Laid, Facts}
-use Rattle.modal.specs.Post.{Least}
+use Rattle.modal.specs.Post.{Present}
 use Rattle.pair.specs.Post.{standingFrom}
 use Rattle.pairs.specs.Post.{Bases}
 use Rattle.lattice.specs.Signed.{normal}
@@ -48,7 +48,7 @@ pub record Made (s : Bool) (x : Shape) (q starts facts : List ℕ) (sets : Sets)
   pub passed : (f : Formula) (rest : List ℕ) → q ≡ prefix f ++ rest → used ≡ length (prefix f)
   pub stands : (K : Computation) (f : Formula) (rest : List ℕ) → Given K x starts facts → q ≡ prefix f ++ rest → standing (x .n) (full K) (sets .count) w b ≡ basis K (normal s f)
   pub counted : (K : Computation) (f : Formula) (rest : List ℕ) → Given K x starts facts → q ≡ prefix f ++ rest → sum ≡ rounds K (normal s f)
-  pub least : Least ((x .e + 1) * x .n) (sets .count) w
+  pub least : Present ((x .e + 1) * x .n) (sets .count) w
   pub marked : (K : Computation) (f : Formula) (rest : List ℕ) → Given K x starts facts → q ≡ prefix f ++ rest → Marked K (basis K (normal s f)) (sets .stations)
   pub within : Within (x .n) (sets .stations)
 
@@ -60,7 +60,7 @@ pub record Joined (pair : Bool) (x : Shape) (l r : Sets) (starts w w₂ b b₂ :
       → standing (x .n) (full K) (sets .count) w₂ b₂ ≡ joinedBasis pair K (standing (x .n) (full K) (l .count) w b) (standingFrom (x .n) (x .e) K w b (l .count) (r .count))
   pub summed : (K : Computation) → Laid K x starts → Bases x l r w b K
       → sum ≡ joinedRounds pair K (standing (x .n) (full K) (l .count) w b) (standingFrom (x .n) (x .e) K w b (l .count) (r .count))
-  pub least : Least ((x .e + 1) * x .n) (sets .count) w₂
+  pub least : Present ((x .e + 1) * x .n) (sets .count) w₂
   pub marked : (K : Computation) (L R : List Structure) → length L ≡ l .count → Marked K L (l .stations) → Marked K R (r .stations) → Marked K (joinedBasis pair K L R) (sets .stations)
   pub within : Within (x .n) (sets .stations)
 
@@ -73,5 +73,5 @@ pub record Combined (pair : Bool) (x : Shape) (l r : Sets) (u v : ℕ) (starts w
 -- The k structures at the front of w and b became those at the front of w₂ and b₂, of which none is marked.
 pub record Lifted (wide : Bool) (x : Shape) (k : ℕ) (starts w w₂ b b₂ : List ℕ) (sets : Sets) : Type 0 where
   pub stands : (K : Computation) → Laid K x starts → standing (x .n) (full K) (sets .count) w₂ b₂ ≡ liftedBasis wide K (standing (x .n) (full K) k w b)
-  pub least : Least ((x .e + 1) * x .n) (sets .count) w₂
+  pub least : Present ((x .e + 1) * x .n) (sets .count) w₂
   pub unmarked : sets .stations ≡ replicate 16 0

@@ -13,7 +13,7 @@ ghost use Rattle.model.specs.Structure.{Structure};
 ghost use Rattle.structure.specs.Marks.{Marked, Within};
 ghost use Rattle.structure.specs.Shaped.{Shaped};
 ghost use Rattle.steps.specs.Rows.{rowAt};
-ghost use Rattle.modal.specs.Post.{Least};
+ghost use Rattle.modal.specs.Post.{Present};
 ghost use Rattle.pairs.specs.Post.{PairsReady};
 ghost use Rattle.token.specs.Contract.{roundsMost, Ready, Made, Combined, Lifted};
 
@@ -119,7 +119,7 @@ pub fn passed(p: Basis) -> Basis
 pub fn lift(ws: &mut [u8], bs: &mut [u8], wide: bool, p: Basis, x: Shape, starts: &[u8]) -> Basis
     requires { ⌜ Shaped x ⌝ }
     requires { ⌜ (p .sets .count ≤ 16) × (p .sets .count * ((x .e + 1) * x .n) ≤ length (now ws)) × (p .sets .count * (16 * x .n) ≤ length (now bs)) × ((x .e + 1) * x .n ≤ length (now ws)) × (16 * x .n ≤ length (now bs)) × ((x .e + 1) * x .n ≤ length (now starts)) × (rowAt (x .n) 0 (now starts) ≡ replicate (x .n) 0) × (getD (now starts) 0 0 ≡ 255 → ⊥) × (p .used ≤ 192) ⌝ }
-    requires { ⌜ Least ((x .e + 1) * x .n) (p .sets .count) (now ws) ⌝ }
+    requires { ⌜ Present ((x .e + 1) * x .n) (p .sets .count) (now ws) ⌝ }
     ensures { λ r. ⌜ (r .used ≡ p .used + 1) × (r .rounds ≡ p .rounds) × Lifted wide x (p .sets .count) (now (starts .entry)) (now (ws .entry)) (now (ws .exit)) (now (bs .entry)) (now (bs .exit)) (r .sets) ⌝ }
 {
     let k = p.sets.count;
@@ -168,7 +168,7 @@ pub fn combine(
 ) -> Basis
     requires { ⌜ Shaped x ⌝ }
     requires { ⌜ ((x .e + 1) * x .n ≤ length (now starts)) × (l .used ≤ 192) × (r .used ≤ 192) × (l .rounds ≤ roundsMost) × (r .rounds ≤ roundsMost) × (l .sets .count ≤ 16) × (r .sets .count ≤ 16) ⌝ }
-    requires { ⌜ Least ((x .e + 1) * x .n) (l .sets .count + r .sets .count) (now ws) × Within (x .n) (l .sets .stations) × Within (x .n) (r .sets .stations) ⌝ }
+    requires { ⌜ Present ((x .e + 1) * x .n) (l .sets .count + r .sets .count) (now ws) × Within (x .n) (l .sets .stations) × Within (x .n) (r .sets .stations) ⌝ }
     requires { ⌜ (pair ≡ true → PairsReady x (l .sets) (r .sets) (now ws) (now bs)) ⌝ }
     ensures { λ p. ⌜ (p .used ≡ l .used + 1 + r .used) × Combined pair x (l .sets) (r .sets) (l .rounds) (r .rounds) (now (starts .entry)) (now (ws .entry)) (now (ws .exit)) (now (bs .entry)) (now (bs .exit)) (p .sets) (p .rounds) ⌝ }
 {
