@@ -87,6 +87,45 @@ pub fn section(programs: &[Program]) -> String {
     page
 }
 
+/// A program's instructions by function, the most first; those under a hundredth of all are one row.
+fn parts(program: &[&str], log: &str) -> Vec<(String, u64)> {
+    let out = format!("{FOLDER}/callgrind.out");
+    valgrind(&[&["--tool=callgrind", &format!("--callgrind-out-file={out}")], program].concat(), log);
+    let told = Command::new("callgrind_annotate").args(["--auto=no", "--threshold=100", &out]).output().expect("callgrind_annotate");
+    let (mut all, mut total) = (Vec::<(String, u64)>::new(), 0);
+    for line in String::from_utf8_lossy(&told.stdout).lines() {
+        // instructions (share) file:function [program]
+        let Some((count, place)) = line.split_once(" (") else { continue };
+        let Ok(count) = count.trim().replace(',', "").parse::<u64>() else { continue };
+        let place = place.split_once(')').unwrap().1.trim();
+        if place == "PROGRAM TOTALS" {
+            total = count;
+            continue;
+        }
+        let name = place.split(" [").next().unwrap().split_once(':').unwrap().1.to_string();
+        match all.iter_mut().find(|(n, _)| *n == name) {
+            Some((_, sum)) => *sum += count,
+            None => all.push((name, count)),
+        }
+    }
+    let (mut large, small): (Vec<_>, Vec<_>) = all.into_iter().partition(|&(_, n)| total <= n * 100);
+    assert!(large.iter().chain(&small).map(|&(_, n)| n).sum::<u64>() == total, "all instructions of {program:?} are some function's");
+    large.sort_by_key(|&(_, n)| std::cmp::Reverse(n));
+    large.push(("all else".into(), small.iter().map(|&(_, n)| n).sum()));
+    large
+}
+
+/// Where the instructions go on the largest log, in the proved program and in the fastest of the others.
+pub fn parts_section() -> String {
+    let mut page = String::from(include_str!("parts.md"));
+    let (log, bench) = (file("8x127", &wide_log(8, 127, 16)), current_exe().unwrap());
+    for (name, program) in [("proved", vec![PROGRAM]), ("fast", vec![bench.to_str().unwrap(), "print", "fast"])] {
+        page += &head(format!("\n| {name} | instructions |"));
+        parts(&program, &log).iter().for_each(|(function, n)| writeln!(page, "| `{function}` | {n} |").unwrap());
+    }
+    page
+}
+
 /// The largest log with questions of 32 tokens: 31 of one operand over a range, 29 over an "and", and a chain of "and" or "or" over 11.
 fn deep_log() -> Vec<u8> {
     let range = |s: u8| vec![1, s, 0, 1, 0, 2];

@@ -134,6 +134,7 @@ fn main() {
         short(&rows, &programs, &memory),
         timed::section(&rows),
         counted::section(&programs),
+        counted::parts_section(),
         counted::memory_section(&memory),
         spin::section(),
     ];
