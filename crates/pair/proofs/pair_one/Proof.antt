@@ -9,7 +9,7 @@ use Rattle.pair.proofs.pair_one.Statement.{statement}
 use Rattle.pair.proofs.pair_one.Tie as tie
 
 intersect-at-requires : tie.Need-intersect-at-requires
-intersect-at-requires c κs = search needs
+intersect-at-requires c κs = let s = c .before .before .before .before in (s .pre .0, (s .pre .1 .0 .placed, s .pre .1 .1))
 
 add-at : tie.Need-add-at
 add-at c = search needs
@@ -49,10 +49,10 @@ slice-read-if1 : tie.Need-slice-read-if1
 slice-read-if1 c = search needs
 
 same-length : tie.Need-same-length
-same-length c = search needs
+same-length c = c .before .before .before .before .before .before .before .before .intersect-at .kept .0
 
 same-length-2 : tie.Need-same-length-2
-same-length-2 c = search needs
+same-length-2 c = c .before .before .before .before .join-bars .kept .0
 
 returns : tie.Need-returns
 returns c =
@@ -76,10 +76,10 @@ barred-out-requires : tie.Need-barred-out-requires
 barred-out-requires c κs = search needs
 
 same-length-3 : tie.Need-same-length-3
-same-length-3 c = search needs
+same-length-3 c = c .before .before .before .before .before .before .before .before .before .before .before .before .intersect-at .kept .0
 
 same-length-4 : tie.Need-same-length-4
-same-length-4 c = search needs
+same-length-4 c = c .before .before .before .before .before .before .before .before .join-bars .kept .0
 
 returns-2 : tie.Need-returns-2
 returns-2 c =
@@ -97,10 +97,10 @@ returns-2 c =
     )
 
 same-length-5 : tie.Need-same-length-5
-same-length-5 c = search needs
+same-length-5 c = c .before .before .before .before .before .before .before .before .before .before .before .before .intersect-at .kept .0
 
 same-length-6 : tie.Need-same-length-6
-same-length-6 c = search needs
+same-length-6 c = c .before .before .before .before .before .before .before .before .join-bars .kept .0
 
 returns-3 : tie.Need-returns-3
 returns-3 c =
