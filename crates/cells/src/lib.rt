@@ -123,7 +123,7 @@ pub fn join_eight(acc: &mut [u8], ws: &[u8], at: usize)
 }
 
 // Joined with the n cells at a place, one by one.
-pub fn join_few(acc: &mut [u8], ws: &[u8], at: usize, n: usize)
+fn join_few(acc: &mut [u8], ws: &[u8], at: usize, n: usize)
     requires { ⌜ (length (now acc) ≡ 8) × (n ≤ 8) × (at + n ≤ length (now ws)) ⌝ }
     ensures { λ _. ⌜ now (acc .exit) ≡ join (take n (now (acc .entry))) (take n (drop at (now (ws .entry)))) ++ drop n (now (acc .entry)) ⌝ }
 {

@@ -53,10 +53,12 @@ pub data Opening : Type 0 where
   shut : ℕ → ℕ → Opening
   poses : Computation → Formula → Opening
 
+-- A question that is not there is refused with 10.
 unfoldable pub posing : Computation → Option Formula → Opening
 posing K none = shut 10 0
 posing K (some f) = poses K f
 
+-- A log that is refused stays so.
 unfoldable pub openingOf : Result → ℕ → Opening
 openingOf (refused k n) q = shut k n
 openingOf (accepted r) q = posing (r .computation) (getElem? (r .questions) q)

@@ -1,4 +1,4 @@
--- What the operations hand back, in this paper's numbers: for every case of each answer its number and values.
+-- What the operations hand back, in document 01's numbers: for every case of each answer its number and values.
 use Prim.Native.Nat.{ℕ}
 use mathlib.Core.List.{List, [], _∷_}
 use Rattle.model.specs.declared.Fault.{Fault}
