@@ -1,19 +1,22 @@
 -- What the loops write: joins, the table of a station, the rows of an atom.
-use mathlib.Core.Path.{_≡_, refl, ap₂, _∙_}
-use Prim.Native.Nat.{ℕ, suc, _+_, _-_, _*_, _≤_, _<_, max}
+use mathlib.Core.Path.{_≡_, refl, sym, ap, ap₂, _∙_}
+use Prim.Native.Nat.{ℕ, zero, suc, _+_, _-_, _*_, _≤_, _<_, max}
 use native.Mathlib.Omega.{arith}
+use native.Mathlib.Nat.{mul-le-mul-right}
 use native.Mathlib.Numerals.{add-one}
-use mathlib.Core.List.{List}
+use mathlib.Core.List.{List, _∷_}
 use mathlib.Core.Bool.{Bool, true, false, cond}
 use lib.Dec.{eqb}
 use lib.ListN.{length, getD, take, drop, set, replicate, length-drop, length-replicate, getD-replicate}
-use lib.Seq.{length-take-le, getD-take, getD-drop, getD-set-same, getD-set-other}
-use borrow.Author.Tests.{eq-eqb, ne-eqb, eqb-true, eqb-false}
+use lib.Seq.{length-take-le, take-all, take-take, getD-take, getD-drop, getD-set-same, getD-set-other, paste}
+use borrow.Author.Tests.{eq-eqb, ne-eqb}
 use Rattle.model.specs.Cut.{join}
 use Rattle.model.specs.Atom.{next}
 use Rattle.lattice.proofs.Cuts.{length-join, join-at}
-use Rattle.structure.proofs.Places.{row-fits}
+use Rattle.cells.proofs.Cuts.{take-join}
+use Rattle.cells.proofs.Parts.{paste-front, paste-part}
 use Rattle.steps.specs.Rows.{rowAt, absent, coded, entry, eventRow, joinedRow, atomRow, Tabled}
+use Rattle.steps.proofs.Parts.{rows-next}
 
 -- JOINS
 
@@ -26,6 +29,23 @@ parts-at s a b n j h =
 pub parts-length : (s : List ℕ) (a b n : ℕ) → a + n ≤ length s → b + n ≤ length s → length (join (take n (drop a s)) (take n (drop b s))) ≡ n
 parts-length s a b n h k =
     omega (arith, length-join (take n (drop a s)) (take n (drop b s)), length-take-le n (drop a s) (omega (arith, length-drop a s)), length-take-le n (drop b s) (omega (arith, length-drop b s)))
+
+module _ (d d₂ : List ℕ) (at : ℕ) (s : List ℕ) (a b : ℕ) where
+  -- The join of len cells of s from a on with those from b on, written at a place.
+  abbrev Joined : ℕ → Type 0
+  Joined len = d₂ ≡ paste d at (join (take len (drop a s)) (take len (drop b s))) len
+
+  -- Eight cells that were read, joined with the others and copied.
+  pub eight-joined : (t t₂ : List ℕ) → take 8 t ≡ take 8 (drop a s) → length t ≡ 8 → t₂ ≡ join t (take 8 (drop b s)) → d₂ ≡ paste d at t₂ 8 → Joined 8
+  eight-joined t t₂ e l f g = let u : t ≡ take 8 (drop a s) = sym (take-all 8 t (omega arith)) ∙ e in rw (g, f, u)
+
+  pub eight-are : (len : ℕ) → len ≡ 8 → Joined 8 → Joined len
+  eight-are len e g = rw e g
+
+take-none : (n w : ℕ) → n ≤ w → take n (replicate w 255) ≡ absent n
+take-none zero w h = refl
+take-none (suc n) zero h = absurd (omega arith)
+take-none (suc n) (suc w) h = ap (λ (l : List ℕ). 255 ∷ l) (take-none n w (omega arith))
 
 -- TABLES
 
@@ -71,30 +91,45 @@ pub event-later : (off k : ℕ) → 0 < k → eventRow off k ≡ off + k
 unfolding eventRow
 event-later off k h = rw (ne-eqb k 0 (λ e. omega arith))
 
-module _ (n s off : ℕ) (table starts : List ℕ) (i : ℕ) where
-  pub atom-none : getD table (getD starts (i * n + s) 0) 0 ≡ 255 → absent n ≡ atomRow n s off table starts i
-  unfolding atomRow joinedRow
-  atom-none h = rw (eq-eqb _ 255 h)
+-- What a row comes to where w cells were written for it, n or more.
+module _ (n w i : ℕ) (h : n ≤ w) (d d₂ : List ℕ) (room : i * n + w ≤ length d) where
+  abbrev Row : List ℕ → Type 0
+  Row l = (take (i * n) d₂ ≡ take (i * n) d) × (rowAt n i d₂ ≡ l)
 
-  pub atom-joined : (getD table (getD starts (i * n + s) 0) 0 ≡ 255 → ⊥)
-      → join (rowAt n i starts) (rowAt n (eventRow off (getD table (getD starts (i * n + s) 0) 0)) starts) ≡ atomRow n s off table starts i
-  unfolding atomRow joinedRow
-  atom-joined h = rw (ne-eqb (getD table (getD starts (i * n + s) 0) 0) 255 h)
+  row-written : (l : List ℕ) → w ≤ length l → d₂ ≡ paste d (i * n) l w → Row (take n l)
+  row-written l m e = (
+    ap (take (i * n)) e ∙ paste-front d (i * n) l w (omega arith) m,
+    sym (take-take n w (drop (i * n) d₂) h) ∙ ap (λ (x : List ℕ). take n (take w (drop (i * n) x))) e ∙ ap (take n) (paste-part d (i * n) l w (omega arith) m) ∙ take-take n w l h,
+  )
 
-module _ (n e s off : ℕ) (table starts : List ℕ) (t : Tabled n e s off table (length starts)) where
-  -- The row that an entry leads to stands among the starts.
-  pub event-there : (k : ℕ) → k < 256 → (getD table k 0 ≡ 255 → ⊥) → (r : ℕ) → r ≡ eventRow off (getD table k 0) → r ≤ e
-  event-there k h f r q = omega (arith, event-fits off (getD table k 0), t .reach k h f)
+  module _ (off : ℕ) (starts : List ℕ) (k : ℕ) where
+    pub row-none : k ≡ 255 → d₂ ≡ paste d (i * n) (replicate w 255) w → Row (joinedRow n off starts i k)
+    unfolding joinedRow
+    row-none z e =
+        let r = row-written (replicate w 255) (omega (arith, length-replicate {A = ℕ} w 255)) e in
+        (r .0, r .1 ∙ rw (eq-eqb k 255 z) (take-none n w h))
 
-  pub atom-length : (i : ℕ) → i ≤ e → getD starts (i * n + s) 0 < 256 → length (atomRow n s off table starts i) ≡ n
-  unfolding atomRow joinedRow
-  atom-length i h b = go (eqb k 255) refl
-    where
-      k : ℕ
-      k = getD table (getD starts (i * n + s) 0) 0
+    pub row-joined : (k ≡ 255 → ⊥) → (r : ℕ) → r ≡ eventRow off k → i * n + w ≤ length starts → r * n + w ≤ length starts
+        → d₂ ≡ paste d (i * n) (join (take w (drop (i * n) starts)) (take w (drop (r * n) starts))) w → Row (joinedRow n off starts i k)
+    unfolding joinedRow
+    row-joined z r q f g e =
+        let l : List ℕ = join (take w (drop (i * n) starts)) (take w (drop (r * n) starts)) in
+        let t = row-written l (omega (arith, parts-length starts (i * n) (r * n) w f g)) e in (
+          t .0,
+          t .1 ∙ take-join n (take w (drop (i * n) starts)) (take w (drop (r * n) starts))
+              ∙ ap₂ join (take-take n w (drop (i * n) starts) h) (take-take n w (drop (r * n) starts) h) ∙ rw (ne-eqb k 255 z, q),
+        )
 
-      go : (x : Bool) → eqb k 255 ≡ x → length (cond x (absent n) (join (rowAt n i starts) (rowAt n (eventRow off k) starts))) ≡ n
-      go true q = length-replicate {A = ℕ} n 255
-      go false q =
-          let r : eventRow off k ≤ e = event-there (getD starts (i * n + s) 0) b (eqb-false k 255 q) (eventRow off k) refl in
-          parts-length starts (i * n) (eventRow off k * n) n (omega (arith, row-fits i e n h, t .starts-fit)) (omega (arith, row-fits (eventRow off k) e n r, t .starts-fit))
+-- A turn of the loop over the rows.
+pub atom-next : (n s off : ℕ) (table starts : List ℕ) (i : ℕ) (w w₂ : List ℕ) → take (i * n) w₂ ≡ take (i * n) w
+    → rowAt n i w₂ ≡ joinedRow n off starts i (getD table (getD starts (i * n + s) 0) 0)
+    → ((r : ℕ) → r < i → rowAt n r w ≡ atomRow n s off table starts r) → (r : ℕ) → r < i + 1 → rowAt n r w₂ ≡ atomRow n s off table starts r
+unfolding atomRow
+atom-next n s off table starts i w w₂ e h = rows-next n (atomRow n s off table starts) i w w₂ e h
+
+-- The row that an entry leads to stands among the starts, with w cells where the last one has as many.
+pub event-room : (n e s off w : ℕ) (table starts : List ℕ) → Tabled n e s off table (length starts) → e * n + w ≤ length starts
+    → (k : ℕ) → k < 256 → (getD table k 0 ≡ 255 → ⊥) → eventRow off (getD table k 0) * n + w ≤ length starts
+event-room n e s off w table starts t room k h f =
+    let r : eventRow off (getD table k 0) ≤ e = omega (arith, event-fits off (getD table k 0), t .reach k h f) in
+    omega (arith, mul-le-mul-right n r)

@@ -29,18 +29,21 @@ row-skip n m i w =
     let e : (m + i) * n ≡ m * n + i * n = omega arith in
     ap (take n) (ap (λ (x : ℕ). drop x w) e ∙ sym (drop-drop (i * n) (m * n) w))
 
--- Where row i has been written, the rows up to i are as f says.
-pub rows-more : (n : ℕ) (f : ℕ → List ℕ) (i : ℕ) (w w₂ : List ℕ) → i * n + n ≤ length w → length (f i) ≡ n → w₂ ≡ paste w (i * n) (f i) n
+-- Where row i has been written and the cells before are as they were, the rows up to i are as f says.
+pub rows-next : (n : ℕ) (f : ℕ → List ℕ) (i : ℕ) (w w₂ : List ℕ) → take (i * n) w₂ ≡ take (i * n) w → rowAt n i w₂ ≡ f i
     → ((r : ℕ) → r < i → rowAt n r w ≡ f r) → (r : ℕ) → r < i + 1 → rowAt n r w₂ ≡ f r
-rows-more n f i w w₂ h l e g r k = go (ltb r i) refl
+rows-next n f i w w₂ e h g r k = go (ltb r i) refl
   where
     go : (b : Bool) → ltb r i ≡ b → rowAt n r w₂ ≡ f r
-    go true q =
-        let a : r < i = ltb-true r i q in
-        ap (rowAt n r) e ∙ part-same (i * n) (paste w (i * n) (f i) n) w (paste-front w (i * n) (f i) n (omega arith) (omega arith)) (r * n) n (next-fits r i n a) ∙ g r a
-    go false q =
-        let a : r ≡ i = omega (arith, ltb-false r i q) in
-        rw a (ap (rowAt n i) e ∙ paste-part w (i * n) (f i) n (omega arith) (omega arith) ∙ take-all n (f i) (omega arith))
+    go true q = let a : r < i = ltb-true r i q in part-same (i * n) w₂ w e (r * n) n (next-fits r i n a) ∙ g r a
+    go false q = let a : r ≡ i = omega (arith, ltb-false r i q) in rw a h
+
+-- Where nothing but row i has been written.
+pub rows-more : (n : ℕ) (f : ℕ → List ℕ) (i : ℕ) (w w₂ : List ℕ) → i * n + n ≤ length w → length (f i) ≡ n → w₂ ≡ paste w (i * n) (f i) n
+    → ((r : ℕ) → r < i → rowAt n r w ≡ f r) → (r : ℕ) → r < i + 1 → rowAt n r w₂ ≡ f r
+rows-more n f i w w₂ h l e =
+    rows-next n f i w w₂ (ap (take (i * n)) e ∙ paste-front w (i * n) (f i) n (omega arith) (omega arith))
+    (ap (rowAt n i) e ∙ paste-part w (i * n) (f i) n (omega arith) (omega arith) ∙ take-all n (f i) (omega arith))
 
 -- BARS
 

@@ -1,5 +1,6 @@
 // The step for an atom, either sign, and the writing of cells and bars that the other steps share.
 use cells::NONE;
+use cells::copy;
 use cells::fill;
 use cells::larger;
 use structure::Shape;
@@ -17,7 +18,7 @@ ghost use Rattle.model.specs.Atom.{passes, raiseAtom};
 ghost use Rattle.model.specs.Atom.Atom.{inRange};
 ghost use Rattle.structure.specs.Layout.{standing};
 ghost use Rattle.structure.specs.Laid.{Laid, Facts};
-ghost use Rattle.steps.specs.Rows.{rowAt, entry, eventRow, atomRow, Tabled, Leads, Ended};
+ghost use Rattle.steps.specs.Rows.{rowAt, entry, eventRow, joinedRow, atomRow, Tabled, Leads, Ended};
 
 // A station and a range of its values, ends included.
 pub struct Interval {
@@ -26,11 +27,25 @@ pub struct Interval {
     pub hi: u16,
 }
 
-// The len cells of src from a on joined with those from b on, written at `at`.
+// The eight cells of src from a on joined with those from b on, written at `at`: all are read before the first is written.
+fn join_eight(ws: &mut [u8], at: usize, src: &[u8], a: usize, b: usize)
+    requires { ⌜ (at + 8 ≤ length (now ws)) × (a + 8 ≤ length (now src)) × (b + 8 ≤ length (now src)) ⌝ }
+    ensures { λ _. ⌜ now (ws .exit) ≡ paste (now (ws .entry)) at (join (take 8 (drop a (now (src .entry)))) (take 8 (drop b (now (src .entry))))) 8 ⌝ }
+{
+    let mut t = cells::cut_at(src, a, 8);
+    cells::join_eight(&mut t, src, b);
+    copy(ws, at, &t, 0, 8);
+}
+
+// The same of len cells.
 fn join_cells(ws: &mut [u8], at: usize, src: &[u8], a: usize, b: usize, len: usize)
     requires { ⌜ (at + len ≤ length (now ws)) × (a + len ≤ length (now src)) × (b + len ≤ length (now src)) ⌝ }
     ensures { λ _. ⌜ now (ws .exit) ≡ paste (now (ws .entry)) at (join (take len (drop a (now (src .entry)))) (take len (drop b (now (src .entry))))) len ⌝ }
 {
+    if len == 8 {
+        join_eight(ws, at, src, a, b);
+        return;
+    }
     let mut i = 0;
     while i < len {
         ws[at + i] = larger(src[a + i], src[b + i]);
@@ -93,27 +108,32 @@ fn event_row(off: usize, k: u8) -> usize
     if k == 0 { 0 } else { off + k as usize }
 }
 
-// Row i of an atom.
-fn atom_row(
-    ws: &mut [u8],
-    i: usize,
-    x: Shape,
-    s: usize,
-    off: usize,
-    table: &[u8; 256],
-    starts: &[u8],
-)
-    requires { ⌜ Tabled (x .n) (x .e) s off (now table) (length (now starts)) ⌝ }
-    requires { ⌜ (i ≤ x .e) × ((x .e + 1) * x .n ≤ length (now ws)) ⌝ }
-    ensures { λ _. ⌜ now (ws .exit) ≡ paste (now (ws .entry)) (i * x .n) (atomRow (x .n) s off (now (table .entry)) (now (starts .entry)) i) (x .n) ⌝ }
+// How many cells are written for a row: eight where there are as many from the last row on, so that each row is one operation.
+fn width(x: Shape, a: usize, b: usize) -> usize
+    requires { ⌜ (x .n ≤ limits .stations) × (x .e ≤ limits .events) × ((x .e + 1) * x .n ≤ a) × ((x .e + 1) * x .n ≤ b) ⌝ }
+    ensures { λ w. ⌜ (x .n ≤ w) × (x .e * x .n + w ≤ a) × (x .e * x .n + w ≤ b) ⌝ }
 {
     let n = x.n;
+    let last = x.e * n;
+    if a - last < 8 {
+        return n;
+    }
+    if b - last < 8 {
+        return n;
+    }
+    8
+}
+
+// Row i of an atom whose table names event k for it: w cells are written, those past the row for rows to come.
+fn atom_row(ws: &mut [u8], i: usize, n: usize, w: usize, off: usize, k: u8, starts: &[u8])
+    requires { ⌜ (off ≤ limits .events) × (n ≤ w) × (i * n + w ≤ length (now ws)) × (i * n + w ≤ length (now starts)) × ((k ≡ 255 → ⊥) → eventRow off k * n + w ≤ length (now starts)) ⌝ }
+    ensures { λ _. ⌜ (take (i * n) (now (ws .exit)) ≡ take (i * n) (now (ws .entry))) × (rowAt n i (now (ws .exit)) ≡ joinedRow n off (now (starts .entry)) i k) ⌝ }
+{
     let at = i * n;
-    let k = table[starts[at + s] as usize];
     if k == NONE {
-        fill(ws, at, n, NONE);
+        fill(ws, at, w, NONE);
     } else {
-        join_cells(ws, at, starts, at, event_row(off, k) * n, n);
+        join_cells(ws, at, starts, at, event_row(off, k) * n, w);
     }
 }
 
@@ -124,9 +144,12 @@ fn atom_rows(ws: &mut [u8], x: Shape, s: usize, off: usize, table: &[u8; 256], s
     ensures { λ _. ⌜ ((i : ℕ) → i ≤ x .e → rowAt (x .n) i (now (ws .exit)) ≡ atomRow (x .n) s off (now (table .entry)) (now (starts .entry)) i) ⌝ }
 {
     let e = x.e;
+    let n = x.n;
+    let w = width(x, ws.len(), starts.len());
     let mut i = 0;
     while i <= e {
-        atom_row(ws, i, x, s, off, table, starts);
+        let k = table[starts[i * n + s] as usize];
+        atom_row(ws, i, n, w, off, k, starts);
         i += 1;
     }
 }

@@ -1,4 +1,4 @@
--- The loop writes the join of the two parts, element by element.
+-- Eight cells are len cells where len is 8; the loop writes the join of the two parts, element by element.
 use Prim.Native.Nat.{_≤_, _-_}
 use mathlib.Core.Path.{_≡_, refl, sym, _∙_}
 use native.Mathlib.Omega.{arith}
@@ -18,9 +18,20 @@ Inv-loop ws₀ at src a b len i₀ ws i =
 abbrev μ-loop : tie.MeasureT-loop
 μ-loop ws₀ at src a b len i₀ ws i = len - i
 
+join-eight-requires : tie.Need-join-eight-requires Inv-loop μ-loop
+join-eight-requires c κs = search needs
+
+same-length : tie.Need-same-length Inv-loop μ-loop
+same-length c = search needs
+
+returns : tie.Need-returns Inv-loop μ-loop
+returns c =
+    let a = c .before .before .before .before .before .before .before .args in
+    laws.eight-are (a .ws .now) _ (a .at) (a .src .now) (a .a) (a .b) (a .len) (c .before .before .before .before .if1 .taken) (c .before .before .join-eight .ensures)
+
 loop-holds : tie.Need-loop-holds Inv-loop μ-loop
 loop-holds c =
-    let a = c .before .before .args in
+    let a = c .before .before .before .args in
     (omega arith, paste-zero (a .ws .now) (a .at) (join (take (a .len) (drop (a .a) (a .src .now))) (take (a .len) (drop (a .b) (a .src .now)))), refl)
 
 add-larger : tie.Need-add-larger Inv-loop μ-loop
@@ -52,17 +63,17 @@ loop-less c = search needs
 
 loop-again : tie.Need-loop-again Inv-loop μ-loop
 loop-again c =
-    let a = c .before .before .before .before .before .before .before .args in
+    let a = c .before .before .before .before .before .before .before .before .args in
     let v = c .before .before .before .before .loop in
     let s = a .src .now in
     (omega arith, rw (v .inv .1) (parts.paste-more (a .ws .now) (a .at) (join (take (a .len) (drop (a .a) s)) (take (a .len) (drop (a .b) s))) (v .i) _ (omega arith) (omega (arith, laws.parts-length s (a .a) (a .b) (a .len) (omega arith) (omega arith))) (laws.parts-at s (a .a) (a .b) (a .len) (v .i) (c .before .before .before .loop-test .taken) ∙ sym (c .larger .ensures))), simp length-set (v .inv .2))
 
-same-length : tie.Need-same-length Inv-loop μ-loop
-same-length c = c .before .loop .inv .2
+same-length-2 : tie.Need-same-length-2 Inv-loop μ-loop
+same-length-2 c = c .before .loop .inv .2
 
-returns : tie.Need-returns Inv-loop μ-loop
-returns c =
-    let a = c .before .before .before .before .args in
+returns-2 : tie.Need-returns-2 Inv-loop μ-loop
+returns-2 c =
+    let a = c .before .before .before .before .before .args in
     parts.paste-done (a .ws .now) (a .at) (join (take (a .len) (drop (a .a) (a .src .now))) (take (a .len) (drop (a .b) (a .src .now)))) (c .before .loop .i) (a .len) (c .before .loop .ws) (omega arith) (c .before .loop .inv .1)
 
 pub join-cells-spec : {M : Type 1} → statement M
@@ -71,6 +82,9 @@ join-cells-spec =
     (tie.spec
     Inv-loop
     μ-loop
+    join-eight-requires
+    same-length
+    returns
     loop-holds
     add-larger
     shared-slice-read-larger
@@ -82,5 +96,5 @@ join-cells-spec =
     add-i
     loop-less
     loop-again
-    same-length
-    returns)
+    same-length-2
+    returns-2)
