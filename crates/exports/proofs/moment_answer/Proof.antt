@@ -1,8 +1,8 @@
 -- `exports::moment_answer`: the reply of `answer::answer`, packed. Assumes nothing.
 use mathlib.Core.Path.{sym, ap, _∙_}
 use Rattle.model.specs.Reply.{lineReply}
-use Rattle.exports.specs.Packed.{packed, answerWidths}
-use Rattle.exports.proofs.Replies.{answer-fair, line-low, one-packed}
+use Rattle.packing.specs.Packed.{packed, answerWidths}
+use Rattle.packing.proofs.Replies.{answer-fair, line-low, one-packed}
 use borrow.Author.Needs.{needs}
 use Rattle.exports.proofs.moment_answer.Statement.{statement}
 use Rattle.exports.proofs.moment_answer.Tie as tie

@@ -1,8 +1,8 @@
 -- `exports::moment_holds`: the reply of `holds::holds`, packed. Assumes nothing.
 use mathlib.Core.Path.{sym, ap, _∙_}
 use Rattle.model.specs.Reply.{holdsReply}
-use Rattle.exports.specs.Packed.{packed, holdsWidths}
-use Rattle.exports.proofs.Replies.{holds-fair, line-low, one-packed}
+use Rattle.packing.specs.Packed.{packed, holdsWidths}
+use Rattle.packing.proofs.Replies.{holds-fair, line-low, one-packed}
 use borrow.Author.Needs.{needs}
 use Rattle.exports.proofs.moment_holds.Statement.{statement}
 use Rattle.exports.proofs.moment_holds.Tie as tie

@@ -1,8 +1,8 @@
 -- `exports::moment_read`: the reply of `log::read`, packed. Assumes nothing.
 use mathlib.Core.Path.{sym, ap, _∙_}
 use Rattle.model.specs.Reply.{readReply}
-use Rattle.exports.specs.Packed.{packed, readWidths}
-use Rattle.exports.proofs.Replies.{read-fair, line-low, counts-low}
+use Rattle.packing.specs.Packed.{packed, readWidths}
+use Rattle.packing.proofs.Replies.{read-fair, line-low, counts-low}
 use borrow.Author.Needs.{needs}
 use Rattle.exports.proofs.moment_read.Statement.{statement}
 use Rattle.exports.proofs.moment_read.Tie as tie

@@ -1,8 +1,8 @@
 -- `exports::moment_write`: the reply of `log::write`, packed. Assumes nothing.
 use mathlib.Core.Path.{sym, ap, _∙_}
 use Rattle.model.specs.Reply.{writeReply}
-use Rattle.exports.specs.Packed.{packed, writeWidths}
-use Rattle.exports.proofs.Replies.{write-fair, line-low, one-packed}
+use Rattle.packing.specs.Packed.{packed, writeWidths}
+use Rattle.packing.proofs.Replies.{write-fair, line-low, one-packed}
 use borrow.Author.Needs.{needs}
 use Rattle.exports.proofs.moment_write.Statement.{statement}
 use Rattle.exports.proofs.moment_write.Tie as tie

@@ -1,11 +1,11 @@
--- `exports::packed_refusal`: the fault's number is that of the definitions, and number and line fit in 64 bits.
-use Rattle.exports.specs.Packed.{packed}
+-- `packing::packed_refusal`: the fault's number is that of the definitions, and number and line fit in 64 bits.
+use Rattle.packing.specs.Packed.{packed}
 use Prim.Native.Nat.{_<_}
 use native.Mathlib.Omega.{arith}
 use borrow.Author.Needs.{needs}
-use Rattle.exports.proofs.Replies.{few-faults}
-use Rattle.exports.proofs.packed_refusal.Statement.{statement}
-use Rattle.exports.proofs.packed_refusal.Tie as tie
+use Rattle.packing.proofs.Replies.{few-faults}
+use Rattle.packing.proofs.packed_refusal.Statement.{statement}
+use Rattle.packing.proofs.packed_refusal.Tie as tie
 
 number-requires : tie.Need-number-requires
 number-requires c κs = search needs

@@ -23,7 +23,7 @@ use Rattle.codec.proofs.Suited.{suitable}
 use Rattle.codec.proofs.Sizes.{short, short-list, short-log}
 use Rattle.codec.proofs.Refusals.{log-named, list-named, opening-named}
 use Rattle.codec.proofs.Demands.{opened-line-fits}
-use Rattle.exports.specs.Packed.{pack, packed, readWidths, writeWidths, answerWidths, holdsWidths}
+use Rattle.packing.specs.Packed.{pack, packed, readWidths, writeWidths, answerWidths, holdsWidths}
 
 -- As many values as widths, each within its bits.
 abbrev pub Fits : List ℕ → List ℕ → Type 0

@@ -1,8 +1,8 @@
--- `exports::packed_counts`: the sums fit in 64 bits.
-use Rattle.exports.specs.Packed.{packed, pack}
+-- `packing::packed_counts`: the sums fit in 64 bits.
+use Rattle.packing.specs.Packed.{packed, pack}
 use borrow.Author.Needs.{needs}
-use Rattle.exports.proofs.packed_counts.Statement.{statement}
-use Rattle.exports.proofs.packed_counts.Tie as tie
+use Rattle.packing.proofs.packed_counts.Statement.{statement}
+use Rattle.packing.proofs.packed_counts.Tie as tie
 
 mul-result : tie.Need-mul-result
 mul-result c = search needs
