@@ -1,10 +1,8 @@
 // The four operations for C and Rust: numbers and byte slices in, a reply packed in one number out.
-use model::HoldsAnswer;
-use model::LineAnswer;
-use model::ReadAnswer;
-use model::WriteAnswer;
-use packing::packed_counts;
-use packing::packed_refusal;
+use packing::packed_answer;
+use packing::packed_holds;
+use packing::packed_read;
+use packing::packed_write;
 ghost use mathlib.Core.Path.{_≡_};
 ghost use lib.ListN.{length};
 ghost use Rattle.model.specs.Limits.{limits};
@@ -17,10 +15,7 @@ pub extern "C" fn moment_read(log: &[u8], out: &mut [u8]) -> u64
     ensures { λ v. ⌜ v ≡ packed readWidths (readOp limits (now (log .entry)) (now (out .entry)) .reply) ⌝ }
     ensures { λ _. ⌜ now (out .exit) ≡ readOp limits (now (log .entry)) (now (out .entry)) .output ⌝ }
 {
-    match log::read(log, out) {
-        ReadAnswer::Accepted(l) => packed_counts(l),
-        ReadAnswer::Refused(r) => packed_refusal(r),
-    }
+    packed_read(log::read(log, out))
 }
 
 // Write: the log's length, or a refusal.
@@ -29,10 +24,7 @@ pub extern "C" fn moment_write(list: &[u8], out: &mut [u8]) -> u64
     ensures { λ v. ⌜ v ≡ packed writeWidths (writeOp limits (now (list .entry)) (now (out .entry)) .reply) ⌝ }
     ensures { λ _. ⌜ now (out .exit) ≡ writeOp limits (now (list .entry)) (now (out .entry)) .output ⌝ }
 {
-    match log::write(list, out) {
-        WriteAnswer::Written(n) => n as u64,
-        WriteAnswer::Refused(r) => packed_refusal(r),
-    }
+    packed_write(log::write(list, out))
 }
 
 // Answer: the line's length, or a refusal.
@@ -49,10 +41,7 @@ pub extern "C" fn moment_answer(
     ensures { λ _. ⌜ Kept (answerOp limits (now (log .entry)) question (length (now (ws .entry))) (length (now (bs .entry))) (now (out .entry)) .reply) (now (ws .entry)) (now (ws .exit)) ⌝ }
     ensures { λ _. ⌜ Kept (answerOp limits (now (log .entry)) question (length (now (ws .entry))) (length (now (bs .entry))) (now (out .entry)) .reply) (now (bs .entry)) (now (bs .exit)) ⌝ }
 {
-    match answer::answer(log, question, ws, bs, out) {
-        LineAnswer::Written(n) => n as u64,
-        LineAnswer::Refused(r) => packed_refusal(r),
-    }
+    packed_answer(answer::answer(log, question, ws, bs, out))
 }
 
 // Holds: 1 for yes, 0 for no, or a refusal.
@@ -68,9 +57,5 @@ pub extern "C" fn moment_holds(
     ensures { λ _. ⌜ Kept (holdsOp limits (now (log .entry)) question (now (cut .entry)) (length (now (ws .entry))) (length (now (bs .entry)))) (now (ws .entry)) (now (ws .exit)) ⌝ }
     ensures { λ _. ⌜ Kept (holdsOp limits (now (log .entry)) question (now (cut .entry)) (length (now (ws .entry))) (length (now (bs .entry)))) (now (bs .entry)) (now (bs .exit)) ⌝ }
 {
-    match holds::holds(log, question, cut, ws, bs) {
-        HoldsAnswer::Yes => 1,
-        HoldsAnswer::No => 0,
-        HoldsAnswer::Refused(r) => packed_refusal(r),
-    }
+    packed_holds(holds::holds(log, question, cut, ws, bs))
 }

@@ -23,19 +23,7 @@ use Rattle.codec.proofs.Suited.{suitable}
 use Rattle.codec.proofs.Sizes.{short, short-list, short-log}
 use Rattle.codec.proofs.Refusals.{log-named, list-named, opening-named}
 use Rattle.codec.proofs.Demands.{opened-line-fits}
-use Rattle.packing.specs.Packed.{pack, packed, readWidths, writeWidths, answerWidths, holdsWidths}
-
--- As many values as widths, each within its bits.
-abbrev pub Fits : List ℕ → List ℕ → Type 0
-Fits [] [] = Unit {0}
-Fits [] (v ∷ values) = ⊥
-Fits (w ∷ widths) [] = ⊥
-Fits (w ∷ widths) (v ∷ values) = (v < 2 ^ w) × Fits widths values
-
--- Values that fit; or a refusal's number and line.
-abbrev pub Fair : List ℕ → Reply → Type 0
-Fair widths (gives values) = Fits widths values
-Fair widths (refuses k n) = (0 < k) × (n ≤ limits .bytes + 1)
+use Rattle.packing.specs.Packed.{pack, packed, readWidths, writeWidths, answerWidths, holdsWidths, Fits, Fair}
 
 -- THE FOUR OPERATIONS
 

@@ -1,6 +1,7 @@
 -- A reply as one number of eight bytes. It tells the replies of an operation apart: proofs/Replies.antt.
-use Prim.Native.Nat.{ℕ, _+_, _*_, _^_}
+use Prim.Native.Nat.{ℕ, _+_, _*_, _^_, _≤_, _<_}
 use mathlib.Core.List.{List, [], _∷_}
+use Rattle.model.specs.Limits.{limits}
 use Rattle.model.specs.Reply.{Reply, gives, refuses}
 
 -- Values stand one after another from the lowest bit on, each in as many bits as are given for it.
@@ -26,3 +27,15 @@ answerWidths = 16 ∷ []
 
 abbrev pub holdsWidths : List ℕ
 holdsWidths = 1 ∷ []
+
+-- As many values as widths, each within its bits.
+abbrev pub Fits : List ℕ → List ℕ → Type 0
+Fits [] [] = Unit {0}
+Fits [] (v ∷ values) = ⊥
+Fits (w ∷ widths) [] = ⊥
+Fits (w ∷ widths) (v ∷ values) = (v < 2 ^ w) × Fits widths values
+
+-- What can be packed: values that fit, or a refusal with a number and a line no higher than a log has.
+abbrev pub Fair : List ℕ → Reply → Type 0
+Fair widths (gives values) = Fits widths values
+Fair widths (refuses k n) = (0 < k) × (n ≤ limits .bytes + 1)

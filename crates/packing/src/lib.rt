@@ -1,18 +1,22 @@
-// A reply packed in one number: a refusal, and Read's counts.
+// The operations' replies, each packed in one number.
+use model::HoldsAnswer;
+use model::LineAnswer;
 use model::Log;
+use model::ReadAnswer;
 use model::Refusal;
+use model::WriteAnswer;
 ghost use mathlib.Core.Path.{_≡_};
 ghost use Prim.Native.Nat.{ℕ, _+_, _^_, _≤_, _<_};
 ghost use mathlib.Core.List.{List, [], _∷_};
 ghost use Rattle.model.specs.Limits.{limits};
-ghost use Rattle.model.specs.Reply.{gives, refusal};
-ghost use Rattle.packing.specs.Packed.{packed, readWidths};
+ghost use Rattle.model.specs.Reply.{gives, refusal, readReply, writeReply, lineReply, holdsReply};
+ghost use Rattle.packing.specs.Packed.{packed, readWidths, writeWidths, answerWidths, holdsWidths, Fair};
 
 // One in the highest five bits.
 const HIGHEST: u64 = 0x0800_0000_0000_0000;
 
 // A refusal: its number in the highest five bits, its line below.
-pub fn packed_refusal(r: Refusal) -> u64
+fn packed_refusal(r: Refusal) -> u64
     requires { ⌜ r .line ≤ limits .bytes + 1 ⌝ }
     ensures { λ v. ⌜ ((widths : List ℕ) → v ≡ packed widths (refusal r)) ⌝ }
 {
@@ -21,9 +25,54 @@ pub fn packed_refusal(r: Refusal) -> u64
 }
 
 // Read's four values, the first in the lowest byte.
-pub fn packed_counts(l: Log) -> u64
+fn packed_counts(l: Log) -> u64
     requires { ⌜ (l .stations < 2 ^ 8) × (l .events < 2 ^ 8) × (l .questions < 2 ^ 8) × (l .list < 2 ^ 16) ⌝ }
     ensures { λ v. ⌜ v ≡ packed readWidths (gives (l .stations ∷ l .events ∷ l .questions ∷ l .list ∷ [])) ⌝ }
 {
     l.stations as u64 + 256 * (l.events as u64 + 256 * (l.questions as u64 + 256 * (l.list as u64)))
+}
+
+// Read's reply: the counts of stations, events and questions and the list's length, or a refusal.
+pub fn packed_read(a: ReadAnswer) -> u64
+    requires { ⌜ Fair readWidths (readReply a) ⌝ }
+    ensures { λ v. ⌜ v ≡ packed readWidths (readReply a) ⌝ }
+{
+    match a {
+        ReadAnswer::Accepted(l) => packed_counts(l),
+        ReadAnswer::Refused(r) => packed_refusal(r),
+    }
+}
+
+// Write's reply: the log's length, or a refusal.
+pub fn packed_write(a: WriteAnswer) -> u64
+    requires { ⌜ Fair writeWidths (writeReply a) ⌝ }
+    ensures { λ v. ⌜ v ≡ packed writeWidths (writeReply a) ⌝ }
+{
+    match a {
+        WriteAnswer::Written(n) => n as u64,
+        WriteAnswer::Refused(r) => packed_refusal(r),
+    }
+}
+
+// Answer's reply: the line's length, or a refusal.
+pub fn packed_answer(a: LineAnswer) -> u64
+    requires { ⌜ Fair answerWidths (lineReply a) ⌝ }
+    ensures { λ v. ⌜ v ≡ packed answerWidths (lineReply a) ⌝ }
+{
+    match a {
+        LineAnswer::Written(n) => n as u64,
+        LineAnswer::Refused(r) => packed_refusal(r),
+    }
+}
+
+// Holds' reply: 1 for yes, 0 for no, or a refusal.
+pub fn packed_holds(a: HoldsAnswer) -> u64
+    requires { ⌜ Fair holdsWidths (holdsReply a) ⌝ }
+    ensures { λ v. ⌜ v ≡ packed holdsWidths (holdsReply a) ⌝ }
+{
+    match a {
+        HoldsAnswer::Yes => 1,
+        HoldsAnswer::No => 0,
+        HoldsAnswer::Refused(r) => packed_refusal(r),
+    }
 }
