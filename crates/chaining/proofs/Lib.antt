@@ -1,6 +1,4 @@
--- Laws that the proofs share; those of a station's events, of rows and of one entry serve other crates too.
-pub mod Forms
-pub mod Reading
-mod Picking
+-- Laws that the proofs share; those of rows written and of one entry serve other crates too.
+pub mod Writing
 pub mod Telling
 mod Filling

@@ -23,7 +23,7 @@ use Rattle.lattice.proofs.Bases.{In, Good}
 use Rattle.cells.proofs.Cuts.{join-zeros, join-comm}
 use Rattle.slots.specs.Slots.{number, Small, Coded, Says}
 use Rattle.numbering.proofs.Numbers.{number-le, says-none, says-some, join-says}
-use Rattle.chaining.specs.Formed.{pickOf, Picks}
+use Rattle.picking.specs.Formed.{pickOf, Picks}
 use Rattle.chaining.specs.Table.{aboveOf, underOf, roundsOf, sought, Tells, Stands, Reaches, Comes, Chain, Chained, Given}
 
 -- JOINS

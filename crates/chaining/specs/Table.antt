@@ -1,12 +1,12 @@
 -- The tables of entries: for each number of an event the cut to join and the cut a round before, in eight cells each, and the rounds less one,
 -- which stand in the second half of the marks; the first half says which entry to look up.
 use mathlib.Core.Path.{_≡_}
-use Prim.Native.Nat.{ℕ, suc, _+_, _*_, _≤_, _<_}
+use Prim.Native.Nat.{ℕ, suc, _+_, _≤_, _<_}
 use mathlib.Core.Bool.{Bool, cond}
 use mathlib.Core.List.{List}
 use mathlib.Core.Option.{Option, none, some}
 use lib.Dec.{eqb}
-use lib.ListN.{length, getD, take, drop, replicate}
+use lib.ListN.{length, getD, replicate}
 use Rattle.model.specs.Cut.{Cut, _⊑_, join}
 use Rattle.model.specs.Computation.{Computation, count}
 use Rattle.model.specs.Structure.{Structure, row}
@@ -16,11 +16,8 @@ use Rattle.lattice.specs.Chains.Entry.{lost, moved}
 use Rattle.lattice.proofs.Bases.{Good}
 use Rattle.slots.specs.Slots.{number, Small, Coded, Slots}
 use Rattle.rounds.specs.Pair.{Clocks}
-use Rattle.chaining.specs.Formed.{Picks}
-
--- Row i of a table of rows of eight cells.
-abbrev pub rowOf : List ℕ → ℕ → List ℕ
-rowOf table i = take 8 (drop (i * 8) table)
+use Rattle.picking.specs.Formed.{Picks}
+use Rattle.picking.specs.Rows.{rowOf}
 
 -- The tables.
 pub record Chain : Type 0 where

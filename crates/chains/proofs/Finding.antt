@@ -26,9 +26,11 @@ use Rattle.cells.proofs.Parts.{part-same}
 use Rattle.slots.specs.Slots.{number, Small, Coded, Says, Slots, Offsets}
 use Rattle.numbering.proofs.Numbers.{number-le, says-none, says-some, join-says}
 use Rattle.round.specs.Said.{Above}
-use Rattle.chaining.specs.Formed.{Picks}
-use Rattle.chaining.specs.Table.{rowOf, chainOf, Chained, Given, Low}
-use Rattle.chaining.proofs.Reading.{slot-row, row-new, row-old}
+use Rattle.picking.specs.Formed.{Picks}
+use Rattle.picking.specs.Rows.{rowOf}
+use Rattle.picking.proofs.Reading.{slot-row}
+use Rattle.chaining.specs.Table.{chainOf, Chained, Given, Low}
+use Rattle.chaining.proofs.Writing.{row-new, row-old}
 use Rattle.chains.specs.Known.{RightKnown, LeftKnown, placeOf, Joined, Looked, Found}
 
 -- A row contains its clock.

@@ -21,8 +21,9 @@ use Rattle.lattice.proofs.Shortcuts.{came}
 use Rattle.slots.specs.Slots.{Small, Coded, Says}
 use Rattle.numbering.proofs.Numbers.{says-none, says-some, coded-same, cells-same}
 use Rattle.round.specs.Said.{Above}
-use Rattle.chaining.specs.Formed.{Picks}
-use Rattle.chaining.specs.Table.{rowOf, Chain, chainOf, roundsOf, sought, Stands, Reaches, Comes, Chained}
+use Rattle.picking.specs.Formed.{Picks}
+use Rattle.picking.specs.Rows.{rowOf}
+use Rattle.chaining.specs.Table.{Chain, chainOf, roundsOf, sought, Stands, Reaches, Comes, Chained}
 use Rattle.chaining.proofs.Telling.{reach, come, seek}
 use Rattle.chains.specs.Known.{Looked}
 

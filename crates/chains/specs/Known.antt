@@ -16,8 +16,9 @@ use Rattle.structure.specs.declared.Shape.{Shape}
 use Rattle.slots.specs.Slots.{Small, Says, Slots, Rows}
 use Rattle.round.specs.Said.{Above, Both}
 use Rattle.rounds.specs.Pair.{Clocks}
-use Rattle.chaining.specs.Formed.{Formed, Picks}
-use Rattle.chaining.specs.Table.{rowOf, chainOf, Chained}
+use Rattle.picking.specs.Formed.{Formed, Picks}
+use Rattle.picking.specs.Rows.{rowOf}
+use Rattle.chaining.specs.Table.{chainOf, Chained}
 
 -- The right set is of station s and has its rows in the workspace, from a place on; the left one stands in a table.
 pub record RightKnown (K : Computation) (S T : Structure) (x : Shape) (s from : ℕ) (ws left first : List ℕ) : Type 0 where

@@ -22,8 +22,9 @@ ghost use Rattle.structure.specs.Shaped.{Shaped};
 ghost use Rattle.slots.specs.Slots.{number, Small, Coded, Says, Slots, Offsets};
 ghost use Rattle.round.specs.Said.{Above};
 ghost use Rattle.rounds.specs.Pair.{Intersected};
-ghost use Rattle.chaining.specs.Formed.{Formed, Picks};
-ghost use Rattle.chaining.specs.Table.{rowOf, chainOf, Chained, Low};
+ghost use Rattle.picking.specs.Formed.{Formed, Picks};
+ghost use Rattle.picking.specs.Rows.{rowOf};
+ghost use Rattle.chaining.specs.Table.{chainOf, Chained, Low};
 ghost use Rattle.chains.specs.Known.{RightKnown, LeftKnown, placeOf, Joined, Looked, Found};
 
 // A byte as a number of rounds.
@@ -234,7 +235,7 @@ pub fn intersect_right(
         right: true,
     };
     let mut marks = [0u8; 512];
-    chaining::pick_counts(&mut marks, ws, from, x, s);
+    picking::pick_counts(&mut marks, ws, from, x, s);
     let mut above = [0u8; 2048];
     let mut under = [0u8; 2048];
     chaining::fill(&mut above, &mut under, &mut marks, left, first, q);
@@ -261,7 +262,7 @@ pub fn intersect_left(
         right: false,
     };
     let mut marks = [0u8; 512];
-    chaining::pick_numbers(&mut marks, left, x, s);
+    picking::pick_numbers(&mut marks, left, x, s);
     let mut above = [0u8; 2048];
     let mut under = [0u8; 2048];
     chaining::fill(&mut above, &mut under, &mut marks, right, first, q);

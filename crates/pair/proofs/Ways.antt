@@ -16,7 +16,7 @@ use Rattle.structure.proofs.Places.{one-more, next-fits}
 use Rattle.slots.specs.Slots.{Small, Slots, Rows, Offsets}
 use Rattle.round.specs.Said.{Both}
 use Rattle.rounds.specs.Pair.{Known, Intersected}
-use Rattle.chaining.specs.Formed.{Formed}
+use Rattle.picking.specs.Formed.{Formed}
 use Rattle.chains.specs.Known.{RightKnown, LeftKnown}
 use Rattle.pair.specs.declared.Pair.{Pair}
 use Rattle.pair.specs.Post.{structureOf, Placed, OnePair, IntersectedAt}

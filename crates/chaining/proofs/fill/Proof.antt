@@ -10,8 +10,8 @@ use Rattle.model.specs.Structure.{Structure}
 use Rattle.slots.specs.Slots.{Small}
 use Rattle.lattice.specs.Chains.{entries}
 use Rattle.lattice.specs.OfStation.{ownRow}
+use Rattle.picking.proofs.Forms.{events-fit, before-is, count-is}
 use Rattle.chaining.specs.Table.{chainOf, Given, Low}
-use Rattle.chaining.proofs.Forms.{events-fit, before-is, count-is}
 use Rattle.chaining.proofs.Telling.{least-le, given-kept}
 use Rattle.chaining.proofs.Filling as laws
 use borrow.Author.Needs.{needs}

@@ -5,8 +5,9 @@ use native.Mathlib.Omega.{arith}
 use lib.ListN.{length, getD}
 use lib.Seq.{length-paste}
 use Rattle.model.specs.Cut.{join}
-use Rattle.chaining.specs.Table.{rowOf}
-use Rattle.chaining.proofs.Reading.{row-length, join-length}
+use Rattle.picking.specs.Rows.{rowOf}
+use Rattle.picking.proofs.Reading.{row-length}
+use Rattle.chaining.proofs.Writing.{join-length}
 use Rattle.chains.specs.Known.{placeOf}
 use Rattle.chains.proofs.Finding.{joined-more}
 use borrow.Author.Needs.{needs}

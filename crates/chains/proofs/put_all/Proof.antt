@@ -6,7 +6,7 @@ use native.Mathlib.Omega.{arith}
 use lib.ListN.{length}
 use Rattle.structure.proofs.Places.{row-fits}
 use Rattle.rounds.proofs.Turned as laws
-use Rattle.chaining.proofs.Forms.{before-is}
+use Rattle.picking.proofs.Forms.{before-is}
 use Rattle.chains.proofs.Finding.{Begun, one-start}
 use borrow.Author.Needs.{needs}
 use Rattle.chains.proofs.put_all.Statement.{statement}

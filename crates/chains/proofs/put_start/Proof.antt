@@ -7,8 +7,8 @@ use lib.ListN.{drop, set}
 use lib.Seq.{take-set-le, getD-set-same}
 use Rattle.structure.proofs.Rows.{is-none, first-at}
 use Rattle.slots.specs.Slots.{Says}
-use Rattle.chaining.specs.Table.{rowOf}
-use Rattle.chaining.proofs.Reading.{row-read}
+use Rattle.picking.specs.Rows.{rowOf}
+use Rattle.picking.proofs.Reading.{row-read}
 use borrow.Author.Needs.{needs}
 use Rattle.chains.proofs.put_start.Statement.{statement}
 use Rattle.chains.proofs.put_start.Tie as tie

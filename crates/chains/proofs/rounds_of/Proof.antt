@@ -8,8 +8,8 @@ use borrow.Author.Tests.{eq-eqb, ne-eqb}
 use Rattle.model.specs.Cut.{join}
 use Rattle.lattice.specs.OfStation.{ownRow}
 use Rattle.lattice.specs.Chains.{lookup}
-use Rattle.chaining.specs.Table.{rowOf}
-use Rattle.chaining.proofs.Reading.{row-cell, row-first, row-length}
+use Rattle.picking.specs.Rows.{rowOf}
+use Rattle.picking.proofs.Reading.{row-cell, row-first, row-length}
 use Rattle.chains.specs.Known.{placeOf, Looked}
 use Rattle.chains.proofs.Looking.{looked-none, looked-some}
 use borrow.Author.Needs.{needs}

@@ -1,8 +1,8 @@
 -- `chains::same_row` meets its contract.
 use mathlib.Core.Path.{_≡_, sym, _∙_}
 use Prim.Native.Nat.{_*_}
-use Rattle.chaining.specs.Table.{rowOf}
-use Rattle.chaining.proofs.Reading.{row-read}
+use Rattle.picking.specs.Rows.{rowOf}
+use Rattle.picking.proofs.Reading.{row-read}
 use borrow.Author.Needs.{needs}
 use Rattle.chains.proofs.same_row.Statement.{statement}
 use Rattle.chains.proofs.same_row.Tie as tie

@@ -1,4 +1,4 @@
--- `chaining::pick_counts` meets its contract: after k events each of them has its entry.
+-- `picking::pick_counts` meets its contract: after k events each of them has its entry.
 use mathlib.Core.Path.{_≡_, refl, _∙_}
 use Prim.Native.Nat.{ℕ, _+_, _*_, _-_, _≤_, _<_}
 use native.Mathlib.Nat.{mul-le-mul-right}
@@ -10,11 +10,11 @@ use Rattle.model.specs.Computation.{Computation, full, count}
 use Rattle.model.specs.Structure.{Structure, row}
 use Rattle.structure.proofs.Places.{row-fits}
 use Rattle.slots.specs.Slots.{number, Rows}
-use Rattle.chaining.proofs.Forms.{events-fit, before-is, count-is}
-use Rattle.chaining.proofs.Picking.{Picked, picked-more, from-rows}
+use Rattle.picking.proofs.Forms.{events-fit, before-is, count-is}
+use Rattle.picking.proofs.Picking.{Picked, picked-more, from-rows}
 use borrow.Author.Needs.{needs}
-use Rattle.chaining.proofs.pick_counts.Statement.{statement}
-use Rattle.chaining.proofs.pick_counts.Tie as tie
+use Rattle.picking.proofs.pick_counts.Statement.{statement}
+use Rattle.picking.proofs.pick_counts.Tie as tie
 
 abbrev Inv-loop : tie.InvT-loop
 Inv-loop marks₀ ws from s n most before k₀ marks k =

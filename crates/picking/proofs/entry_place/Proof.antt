@@ -1,9 +1,9 @@
--- `chaining::entry_place` meets its contract.
+-- `picking::entry_place` meets its contract.
 use mathlib.Core.Path.{refl, sym, _∙_}
 use borrow.Author.Tests.{eq-eqb, ne-eqb}
 use borrow.Author.Needs.{needs}
-use Rattle.chaining.proofs.entry_place.Statement.{statement}
-use Rattle.chaining.proofs.entry_place.Tie as tie
+use Rattle.picking.proofs.entry_place.Statement.{statement}
+use Rattle.picking.proofs.entry_place.Tie as tie
 
 returns : tie.Need-returns
 returns c = rw (eq-eqb (c .before .args .first) 255 (c .if1 .taken)) refl

@@ -1,4 +1,4 @@
--- `chaining::pick_numbers` meets its contract: after k events each of them has its entry.
+-- `picking::pick_numbers` meets its contract: after k events each of them has its entry.
 use mathlib.Core.Path.{_≡_, refl, _∙_}
 use Prim.Native.Nat.{ℕ, _+_, _-_, _≤_, _<_}
 use native.Mathlib.Omega.{arith}
@@ -8,11 +8,11 @@ use Rattle.model.specs.Lists.{total}
 use Rattle.model.specs.Computation.{Computation, full, count}
 use Rattle.model.specs.Structure.{Structure, row}
 use Rattle.slots.specs.Slots.{Small, Slots}
-use Rattle.chaining.proofs.Forms.{events-fit, before-is, count-is}
-use Rattle.chaining.proofs.Picking.{Picked, picked-more, from-table}
+use Rattle.picking.proofs.Forms.{events-fit, before-is, count-is}
+use Rattle.picking.proofs.Picking.{Picked, picked-more, from-table}
 use borrow.Author.Needs.{needs}
-use Rattle.chaining.proofs.pick_numbers.Statement.{statement}
-use Rattle.chaining.proofs.pick_numbers.Tie as tie
+use Rattle.picking.proofs.pick_numbers.Statement.{statement}
+use Rattle.picking.proofs.pick_numbers.Tie as tie
 
 abbrev Inv-loop : tie.InvT-loop
 Inv-loop marks₀ table s most before k₀ marks k =

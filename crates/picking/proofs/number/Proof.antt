@@ -1,9 +1,9 @@
--- `chaining::number` meets its contract.
+-- `picking::number` meets its contract.
 use native.Mathlib.Omega.{arith}
-use Rattle.chaining.proofs.Picking.{number-none, number-some}
+use Rattle.picking.proofs.Picking.{number-none, number-some}
 use borrow.Author.Needs.{needs}
-use Rattle.chaining.proofs.number.Statement.{statement}
-use Rattle.chaining.proofs.number.Tie as tie
+use Rattle.picking.proofs.number.Statement.{statement}
+use Rattle.picking.proofs.number.Tie as tie
 
 add-result : tie.Need-add-result
 add-result c = search needs

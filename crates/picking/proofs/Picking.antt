@@ -19,9 +19,9 @@ use Rattle.structure.specs.Layout.{decoded}
 use Rattle.structure.proofs.Rows.{decoded-some, decoded-is, is-none, first-at}
 use Rattle.slots.specs.Slots.{number, Small, Says, Slots, Rows}
 use Rattle.numbering.proofs.Numbers.{number-same, first-some}
-use Rattle.chaining.specs.Formed.{pickOf}
-use Rattle.chaining.specs.Table.{rowOf}
-use Rattle.chaining.proofs.Reading.{row-cell, row-first, slot-row}
+use Rattle.picking.specs.Formed.{pickOf}
+use Rattle.picking.specs.Rows.{rowOf}
+use Rattle.picking.proofs.Reading.{row-cell, row-first, slot-row}
 
 pub number-none : (K : Computation) (s k : ℕ) → k ≡ 0 → 0 ≡ number K s k
 unfolding number

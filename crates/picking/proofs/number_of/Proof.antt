@@ -1,9 +1,9 @@
--- `chaining::number_of` meets its contract.
+-- `picking::number_of` meets its contract.
 use mathlib.Core.Path.{ap, _∙_}
 use Rattle.slots.specs.Slots.{number}
 use borrow.Author.Needs.{needs}
-use Rattle.chaining.proofs.number_of.Statement.{statement}
-use Rattle.chaining.proofs.number_of.Tie as tie
+use Rattle.picking.proofs.number_of.Statement.{statement}
+use Rattle.picking.proofs.number_of.Tie as tie
 
 wide-requires : tie.Need-wide-requires
 wide-requires c κs = search needs

@@ -11,7 +11,7 @@ use Rattle.lattice.proofs.Sums.{total-take}
 use Rattle.lattice.proofs.Consistency.{full-at}
 use Rattle.structure.specs.declared.Shape.{Shape}
 use Rattle.structure.specs.Shaped.{Shaped}
-use Rattle.chaining.specs.Formed.{Formed}
+use Rattle.picking.specs.Formed.{Formed}
 
 module _ (x : Shape) (h : Shaped x) (s : ℕ) (l : s < x .n) where
   in-counts : getD (take (x .n) (x .counts)) s 0 ≡ getD (x .counts) s 0
