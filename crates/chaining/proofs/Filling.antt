@@ -17,8 +17,8 @@ use Rattle.lattice.specs.Chains.{Entry, entryAt, entries}
 use Rattle.lattice.specs.Chains.Entry.{lost}
 use Rattle.slots.specs.Slots.{number, Small}
 use Rattle.numbering.proofs.Numbers.{number-le, number-same}
+use Rattle.picking.proofs.Reading.{row-new, row-old}
 use Rattle.chaining.specs.Table.{Chain, chainOf, aboveOf, underOf, roundsOf, Tells, Stands, Chained, Low, Wrote}
-use Rattle.chaining.proofs.Writing.{row-new, row-old}
 
 -- WRITING
 

@@ -1,4 +1,3 @@
--- Laws that the proofs share; those of rows written and of one entry serve other crates too.
-pub mod Writing
+-- Laws that the proofs share; those of one entry serve other crates too.
 pub mod Telling
 mod Filling

@@ -6,7 +6,7 @@ use cells::NONE;
 use cells::wide;
 use structure::Shape;
 ghost use mathlib.Core.Path.{_≡_};
-ghost use mathlib.Core.Bool.{Bool, cond};
+ghost use mathlib.Core.Bool.{cond};
 ghost use mathlib.Core.Option.{some};
 ghost use Prim.Native.Nat.{ℕ, suc, _+_, _*_, _≤_, _<_};
 ghost use lib.Dec.{eqb};
@@ -28,17 +28,6 @@ pub struct Station {
     pub x: Shape,
     pub s: usize,
     pub right: bool,
-}
-
-// Row i of one table joined with row k of another, as row i of a third.
-pub fn join_row(out: &mut [u8; 2048], i: usize, a: &[u8; 2048], b: &[u8; 2048], k: usize)
-    requires { ⌜ (length (now out) ≡ 2048) × (length (now a) ≡ 2048) × (length (now b) ≡ 2048) × (i < 256) × (k < 256) ⌝ }
-    ensures { λ _. ⌜ now (out .exit) ≡ paste (now (out .entry)) (i * 8) (join (rowOf (now (a .entry)) i) (rowOf (now (b .entry)) k)) 8 ⌝ }
-{
-    let mut t = [0u8; 8];
-    cells::join_eight(&mut t, a, i * 8);
-    cells::join_eight(&mut t, b, k * 8);
-    cells::copy(out, i * 8, &t, 0, 8);
 }
 
 // Row i of one table joined with row k of the table that it goes to.

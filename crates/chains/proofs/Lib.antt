@@ -1,3 +1,2 @@
 -- Laws that the proofs share.
-mod Looking
 mod Finding

@@ -1,5 +1,6 @@
 // The entries that cuts look up, for a set that raises cuts by an event of one station s: for each event of s a byte that says the number of
 // the event whose entry is looked up by a cut with this event for its last of s, 255 if the set finds no event for it, 0 if it holds the event.
+// What is looked up is joined row by row.
 use cells::NONE;
 use cells::wide;
 use structure::Shape;
@@ -8,12 +9,15 @@ ghost use mathlib.Core.Bool.{cond};
 ghost use Prim.Native.Nat.{ℕ, _+_, _*_, _≤_, _<_};
 ghost use lib.Dec.{eqb};
 ghost use lib.ListN.{length, getD, take};
+ghost use lib.Seq.{paste};
 ghost use Rattle.model.specs.Lists.{total};
+ghost use Rattle.model.specs.Cut.{join};
 ghost use Rattle.model.specs.Computation.{Computation, full};
 ghost use Rattle.model.specs.Structure.{Structure, row};
 ghost use Rattle.structure.specs.Shaped.{Shaped};
 ghost use Rattle.slots.specs.Slots.{number, Slots, Rows};
 ghost use Rattle.picking.specs.Formed.{Formed, Picks};
+ghost use Rattle.picking.specs.Rows.{rowOf};
 
 // The number of event k of a station, from the events of all stations before it.
 pub fn number(before: usize, k: usize) -> usize
@@ -82,4 +86,15 @@ pub fn pick_counts(marks: &mut [u8; 512], ws: &[u8], from: usize, x: Shape, s: u
         marks[v] = entry_place(ws[at], i, v);
         k += 1;
     }
+}
+
+// Row i of one table joined with row k of another, as row i of a third.
+pub fn join_row(out: &mut [u8; 2048], i: usize, a: &[u8; 2048], b: &[u8; 2048], k: usize)
+    requires { ⌜ (length (now out) ≡ 2048) × (length (now a) ≡ 2048) × (length (now b) ≡ 2048) × (i < 256) × (k < 256) ⌝ }
+    ensures { λ _. ⌜ now (out .exit) ≡ paste (now (out .entry)) (i * 8) (join (rowOf (now (a .entry)) i) (rowOf (now (b .entry)) k)) 8 ⌝ }
+{
+    let mut t = [0u8; 8];
+    cells::join_eight(&mut t, a, i * 8);
+    cells::join_eight(&mut t, b, k * 8);
+    cells::copy(out, i * 8, &t, 0, 8);
 }

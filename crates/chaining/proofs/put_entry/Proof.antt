@@ -11,9 +11,8 @@ use Rattle.model.specs.Cut.{join}
 use Rattle.model.specs.Computation.{clock}
 use Rattle.model.specs.Structure.{row}
 use Rattle.picking.specs.Rows.{rowOf}
-use Rattle.picking.proofs.Reading.{row-cell, row-first, row-length, slot-row}
+use Rattle.picking.proofs.Reading.{row-cell, row-first, row-length, slot-row, join-length}
 use Rattle.chaining.specs.Table.{Chain, chainOf, Wrote}
-use Rattle.chaining.proofs.Writing.{join-length}
 use Rattle.chaining.proofs.Telling as laws
 use Rattle.chaining.proofs.Filling.{wrote, wrote-itself, under-length}
 use borrow.Author.Needs.{needs}

@@ -3,7 +3,7 @@ use mathlib.Core.Path.{ap, _∙_}
 use Prim.Native.Nat.{ℕ, _*_}
 use mathlib.Core.List.{List}
 use lib.Seq.{paste}
-use Rattle.chaining.proofs.Writing.{joined-rows}
+use Rattle.picking.proofs.Reading.{joined-rows}
 use borrow.Author.Needs.{needs}
 use Rattle.chaining.proofs.raise_row.Statement.{statement}
 use Rattle.chaining.proofs.raise_row.Tie as tie

@@ -7,8 +7,7 @@ use lib.ListN.{length, take, set, length-set}
 use lib.Seq.{take-set-le, getD-set-same, length-paste}
 use Rattle.model.specs.Cut.{join}
 use Rattle.picking.specs.Rows.{rowOf}
-use Rattle.picking.proofs.Reading.{row-cell, row-first, row-length}
-use Rattle.chaining.proofs.Writing.{join-length, row-new, row-front}
+use Rattle.picking.proofs.Reading.{row-cell, row-first, row-length, join-length, row-new, row-front}
 use Rattle.chains.proofs.Finding.{first-none, first-some}
 use borrow.Author.Needs.{needs}
 use Rattle.chains.proofs.first_cut.Statement.{statement}

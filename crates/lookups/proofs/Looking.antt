@@ -25,7 +25,7 @@ use Rattle.picking.specs.Formed.{Picks}
 use Rattle.picking.specs.Rows.{rowOf}
 use Rattle.chaining.specs.Table.{Chain, chainOf, roundsOf, sought, Stands, Reaches, Comes, Chained}
 use Rattle.chaining.proofs.Telling.{reach, come, seek}
-use Rattle.chains.specs.Known.{Looked}
+use Rattle.lookups.specs.Found.{Looked}
 
 -- Two cuts, the larger one first, are the same where it is contained in the other.
 same-inside : (K : Computation) → Small K → (x y : Cut) (c d : List ℕ) (same : Bool) → Coded K x c → Coded K y d → length c ≡ 8 → length d ≡ 8 → y ⊑ x

@@ -1,4 +1,4 @@
--- `chains::put_all` meets its contract: after i starts their rows stand, and their rounds are counted.
+-- `lookups::put_all` meets its contract: after i starts their rows stand, and their rounds are counted.
 use mathlib.Core.Path.{_≡_, refl, sym, ap, _∙_}
 use Prim.Native.Nat.{ℕ, suc, _+_, _*_, _-_}
 use native.Mathlib.Numerals.{add-one}
@@ -7,10 +7,10 @@ use lib.ListN.{length}
 use Rattle.structure.proofs.Places.{row-fits}
 use Rattle.rounds.proofs.Turned as laws
 use Rattle.picking.proofs.Forms.{before-is}
-use Rattle.chains.proofs.Finding.{Begun, one-start}
+use Rattle.lookups.proofs.Starts.{Begun, one-start}
 use borrow.Author.Needs.{needs}
-use Rattle.chains.proofs.put_all.Statement.{statement}
-use Rattle.chains.proofs.put_all.Tie as tie
+use Rattle.lookups.proofs.put_all.Statement.{statement}
+use Rattle.lookups.proofs.put_all.Tie as tie
 
 abbrev Inv-loop : tie.InvT-loop
 Inv-loop ws₀ out last cuts first marks s n e code rounds₀ i₀ ws rounds i = (length ws ≡ length ws₀) × laws.Turned n e (e + 5) (Begun n e s out last cuts first marks code) i ws rounds

@@ -1,4 +1,4 @@
--- `chains::put_start` meets its contract: the cells written are the row, or say none.
+-- `lookups::put_start` meets its contract: the cells written are the row, or say none.
 use mathlib.Core.Path.{_≡_, sym, subst, _∙_}
 use Prim.Native.Nat.{ℕ, _*_}
 use native.Mathlib.Omega.{arith}
@@ -10,8 +10,8 @@ use Rattle.slots.specs.Slots.{Says}
 use Rattle.picking.specs.Rows.{rowOf}
 use Rattle.picking.proofs.Reading.{row-read}
 use borrow.Author.Needs.{needs}
-use Rattle.chains.proofs.put_start.Statement.{statement}
-use Rattle.chains.proofs.put_start.Tie as tie
+use Rattle.lookups.proofs.put_start.Statement.{statement}
+use Rattle.lookups.proofs.put_start.Tie as tie
 
 slice-write-ws : tie.Need-slice-write-ws
 slice-write-ws c = search needs

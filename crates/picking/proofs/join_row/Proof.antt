@@ -1,12 +1,12 @@
--- `chaining::join_row` meets its contract.
+-- `picking::join_row` meets its contract.
 use mathlib.Core.Path.{ap, _∙_}
 use Prim.Native.Nat.{ℕ, _*_}
 use mathlib.Core.List.{List}
 use lib.Seq.{paste}
-use Rattle.chaining.proofs.Writing.{joined-rows}
+use Rattle.picking.proofs.Reading.{joined-rows}
 use borrow.Author.Needs.{needs}
-use Rattle.chaining.proofs.join_row.Statement.{statement}
-use Rattle.chaining.proofs.join_row.Tie as tie
+use Rattle.picking.proofs.join_row.Statement.{statement}
+use Rattle.picking.proofs.join_row.Tie as tie
 
 slice-aggregate-join-eight : tie.Need-slice-aggregate-join-eight
 slice-aggregate-join-eight c = search needs

@@ -1,4 +1,4 @@
--- `chains::join_all` meets its contract: after i rows each of them is joined.
+-- `lookups::join_all` meets its contract: after i rows each of them is joined.
 use mathlib.Core.Path.{_≡_, ap, _∙_}
 use Prim.Native.Nat.{ℕ, _+_, _*_, _-_, _≤_, _<_}
 use native.Mathlib.Omega.{arith}
@@ -6,13 +6,12 @@ use lib.ListN.{length, getD}
 use lib.Seq.{length-paste}
 use Rattle.model.specs.Cut.{join}
 use Rattle.picking.specs.Rows.{rowOf}
-use Rattle.picking.proofs.Reading.{row-length}
-use Rattle.chaining.proofs.Writing.{join-length}
-use Rattle.chains.specs.Known.{placeOf}
-use Rattle.chains.proofs.Finding.{joined-more}
+use Rattle.picking.proofs.Reading.{row-length, join-length}
+use Rattle.lookups.specs.Found.{placeOf}
+use Rattle.lookups.proofs.Starts.{joined-more}
 use borrow.Author.Needs.{needs}
-use Rattle.chains.proofs.join_all.Statement.{statement}
-use Rattle.chains.proofs.join_all.Tie as tie
+use Rattle.lookups.proofs.join_all.Statement.{statement}
+use Rattle.lookups.proofs.join_all.Tie as tie
 
 abbrev Inv-loop : tie.InvT-loop
 Inv-loop out₀ cuts rows marks e s i₀ out i =

@@ -1,7 +1,7 @@
--- `chains::all_starts` meets its contract.
+-- `lookups::all_starts` meets its contract.
 use borrow.Author.Needs.{needs}
-use Rattle.chains.proofs.all_starts.Statement.{statement}
-use Rattle.chains.proofs.all_starts.Tie as tie
+use Rattle.lookups.proofs.all_starts.Statement.{statement}
+use Rattle.lookups.proofs.all_starts.Tie as tie
 
 join-all-requires : tie.Need-join-all-requires
 join-all-requires c κs = search needs

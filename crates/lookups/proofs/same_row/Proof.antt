@@ -1,11 +1,11 @@
--- `chains::same_row` meets its contract.
+-- `lookups::same_row` meets its contract.
 use mathlib.Core.Path.{_≡_, sym, _∙_}
 use Prim.Native.Nat.{_*_}
 use Rattle.picking.specs.Rows.{rowOf}
 use Rattle.picking.proofs.Reading.{row-read}
 use borrow.Author.Needs.{needs}
-use Rattle.chains.proofs.same_row.Statement.{statement}
-use Rattle.chains.proofs.same_row.Tie as tie
+use Rattle.lookups.proofs.same_row.Statement.{statement}
+use Rattle.lookups.proofs.same_row.Tie as tie
 
 mul-cut-at : tie.Need-mul-cut-at
 mul-cut-at c = search needs

@@ -1,4 +1,4 @@
--- `chains::rounds_of` meets its contract.
+-- `lookups::rounds_of` meets its contract.
 use mathlib.Core.Path.{_≡_, refl, sym, ap, subst, _∙_}
 use Prim.Native.Nat.{ℕ, _+_}
 use native.Mathlib.Omega.{arith}
@@ -10,11 +10,11 @@ use Rattle.lattice.specs.OfStation.{ownRow}
 use Rattle.lattice.specs.Chains.{lookup}
 use Rattle.picking.specs.Rows.{rowOf}
 use Rattle.picking.proofs.Reading.{row-cell, row-first, row-length}
-use Rattle.chains.specs.Known.{placeOf, Looked}
-use Rattle.chains.proofs.Looking.{looked-none, looked-some}
+use Rattle.lookups.specs.Found.{placeOf, Looked}
+use Rattle.lookups.proofs.Looking.{looked-none, looked-some}
 use borrow.Author.Needs.{needs}
-use Rattle.chains.proofs.rounds_of.Statement.{statement}
-use Rattle.chains.proofs.rounds_of.Tie as tie
+use Rattle.lookups.proofs.rounds_of.Statement.{statement}
+use Rattle.lookups.proofs.rounds_of.Tie as tie
 
 mul-if1 : tie.Need-mul-if1
 mul-if1 c = search needs

@@ -1,0 +1,3 @@
+-- Laws that the proofs share.
+mod Looking
+mod Starts
