@@ -26,6 +26,7 @@ use Rattle.structure.specs.Laid.{Laid}
 use Rattle.lattice.proofs.Signed as signed
 use Rattle.lattice.specs.Signed.{normal, two, joinedForm}
 use Rattle.lattice.proofs.Tests.{and-true}
+use Rattle.lattice.proofs.Theorem.{basis-good}
 use Rattle.lattice.proofs.Size.{basis-bars-at, narrow-both}
 use Rattle.lattice.proofs.Held.{held-both}
 use Rattle.structure.proofs.Places.{one-more, cells-are}
@@ -36,7 +37,6 @@ use Rattle.modal.proofs.Laws.{part-room}
 use Rattle.token.specs.Signed.{twoToken, joinedBasis, joinedRounds}
 use Rattle.token.specs.Contract.{roundsMost, Given, Ready, Made, Combined}
 use Rattle.pairs.specs.Post.{Bases, PairsReady}
-use Rattle.pairs.proofs.Goods.{standing-good}
 use Rattle.token.proofs.Tokens as tokens
 use Rattle.token.proofs.Normals as normals
 use Rattle.token.proofs.Operands.{Done, done-at, question-some}
@@ -216,8 +216,8 @@ module _ (s b : Bool) (shape : Shape) (q q′ starts values : List ℕ) (w₀ b�
 
         bases-are : Bases shape sets sets₂ w₃ b₃ K
         bases-are = record {
-          good-left = standing-good K (laid .0 .valid) (normal s f) _ left-is;
-          good-right = standing-good K (laid .0 .valid) (normal s g) _ right-is;
+          good-left = basis-good K (laid .0 .valid) (normal s f) _ left-is;
+          good-right = basis-good K (laid .0 .valid) (normal s g) _ right-is;
           marked-left = subst (λ (X : List Structure). Marked K X (sets .stations)) (sym left-is) (m .marked K f (prefix g ++ rest) laid (d ∙ e));
           marked-right = subst (λ (X : List Structure). Marked K X (sets₂ .stations)) (sym right-is) (m₂ .marked K g rest laid (second-reads f g rest e));
         }

@@ -7,7 +7,7 @@ use native.Mathlib.Nat.{zero-add}
 use native.Mathlib.Decide.{decLe}
 use mathlib.Core.Bool.{Bool, true, false}
 use mathlib.Core.Option.{Option, none, some}
-use mathlib.Core.List.{_++_}
+use mathlib.Core.List.{List, _++_}
 use Rattle.model.specs.Lists.{total}
 use Rattle.model.specs.Cut.{Cut, _⊑_, inside, insideAny, empty}
 use Rattle.model.specs.Computation.{Computation, Consistent, full, stations, eventCount}
@@ -15,12 +15,14 @@ use Rattle.model.specs.Structure.{Structure, raise}
 use Rattle.model.specs.Basis.{Outcome, thenRight, round, onward, after, run, start, intersect}
 use Rattle.model.specs.Rounds.{ByRule}
 use Rattle.model.specs.Rounds.ByRule.{ends, still, goes}
+use Rattle.lattice.specs.Ascending.{RowsAscend}
 use Rattle.lattice.proofs.Valid.{Valid}
 use Rattle.lattice.proofs.Tests.{clash, yes-or-no}
 use Rattle.lattice.proofs.Cuts.{refl⊑, trans⊑, inside-⊑, ⊑-inside, total-⊑, total-back, empty-⊑}
 use Rattle.lattice.proofs.Consistency.{same-cut, ⊑-full, empty-consistent}
-use Rattle.lattice.proofs.Structures.{Least, least-iff, Regular}
+use Rattle.lattice.proofs.Structures.{Least, least-iff, Regular, table, table-represents}
 use Rattle.lattice.proofs.Bases.{In, Good, IsBasis, build-basis}
+use Rattle.lattice.proofs.Ascending.{least-ascend}
 
 -- Whatever the structures, a start takes no more rounds than it may.
 pub rounds-le : (S T : Structure) (m : ℕ) (c : Cut) → (run S T m c) .rounds ≤ m
@@ -168,6 +170,12 @@ module _ (K : Computation) (S T : Structure) (gs : Good K S) (gt : Good K T) whe
       go : (o : Option Cut) → Least Both (λ e. empty (stations K) ⊑ e) o → (o ≡ none) ↔ ((c : Cut) → Both c → ⊥)
       go none h = (λ e c u. h c u (empty-⊑ (stations K) c), λ n. refl)
       go (some d) h = (λ e c u. let z : _≡_ {A = ℕ} 0 1 = cc in omega arith, λ n. absurd (n d (h .0)))
+
+  -- The cuts that the starts come to ascend.
+  pub reached-ascend : Valid K → (bars : List Cut) (l : Cut) → (start K S T (empty (stations K))) .reached ≡ some l → RowsAscend (full K) (table K (λ c. (start K S T c) .reached) bars l)
+  reached-ascend ok bars l e =
+      least-ascend K ok Both (table K (λ c. (start K S T c) .reached) bars l)
+      (table-represents K ok Both (λ c. (start K S T c) .reached) start-least bars l e .rows-least)
 
   -- The intersection is a basis of the common cuts that no bar of either contains.
   pub intersect-basis : Valid K → IsBasis K (intersect K S T) (λ c. Both c × (insideAny c (S .bars ++ T .bars) ≡ false))

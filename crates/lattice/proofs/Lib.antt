@@ -10,6 +10,7 @@ pub mod Belonging
 pub mod Structures
 pub mod Sets
 pub mod Bases
+pub mod Ascending
 pub mod Intersection
 pub mod Shortcuts
 pub mod Joins

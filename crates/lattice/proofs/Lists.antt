@@ -59,6 +59,16 @@ pub all-append : {A : Type 0} {G : A → Type 0} {l r : List A} → All G l → 
 all-append done b = b
 all-append (also a l) b = also a (all-append l b)
 
+pub all-left : {A : Type 0} {G : A → Type 0} (l r : List A) → All G (l ++ r) → All G l
+all-left [] r a = done
+all-left (x ∷ l) r (also p a) = also p (all-left l r a)
+
+pub all-head : {A : Type 0} {G : A → Type 0} {x : A} {l : List A} → All G (x ∷ l) → G x
+all-head (also p a) = p
+
+pub all-tail : {A : Type 0} {G : A → Type 0} {x : A} {l : List A} → All G (x ∷ l) → All G l
+all-tail (also p a) = a
+
 pub all-map : {A : Type 0} {G G′ : A → Type 0} → ((x : A) → G x → G′ x) → {l : List A} → All G l → All G′ l
 all-map f done = done
 all-map f (also {x = x} p a) = also (f x p) (all-map f a)

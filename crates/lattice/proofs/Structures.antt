@@ -82,11 +82,17 @@ joinRows-above [] g j k d e = let z : _≡_ {A = ℕ} 0 1 = cc in absurd (omega 
 joinRows-above (l ∷ ls) g zero k d e = joinRow-above l (joinRows ls g) k d e
 joinRows-above (l ∷ ls) g (suc j) k d e = trans⊑ d (joinRows ls g) (joinRow l (joinRows ls g)) (joinRows-above ls g j k d e) (joinRow-base l (joinRows ls g))
 
-joinRows-in : {P : Cut → Type 0} → ((c d : Cut) → P c → P d → P (join c d)) → (ls : List (List (Option Cut))) (g : Cut) → P g
+pub joinRows-in : {P : Cut → Type 0} → ((c d : Cut) → P c → P d → P (join c d)) → (ls : List (List (Option Cut))) (g : Cut) → P g
     → ((j k : ℕ) (d : Cut) → getD (getD ls j []) k none ≡ some d → P d) → P (joinRows ls g)
 unfolding joinRows
 joinRows-in pj [] g u h = u
 joinRows-in pj (l ∷ ls) g u h = joinRow-in pj l (joinRows ls g) (joinRows-in pj ls g u (λ j. h (suc j))) (h zero)
+
+-- A row that is there is contained in the greatest cut.
+pub row-below : (S : Structure) (j k : ℕ) (d : Cut) → row S j k ≡ some d → d ⊑ greatest S
+unfolding greatest row
+row-below S j zero d e = let z : S .least ≡ d = cc in rw (← z) (joinRows-base (S .rows) (S .least))
+row-below S j (suc k) d e = joinRows-above (S .rows) (S .least) j k d e
 
 -- An entry of a mapped list.
 getD-map-lt : {A B : Type 0} (f : A → B) (l : List A) (k : ℕ) (a : A) (b : B) → k < length l → getD (map f l) k b ≡ f (getD l k a)
@@ -148,18 +154,13 @@ module _ (K : Computation) (ok : Valid K) {P : Cut → Type 0} (reg : Regular K 
   unfolding greatest row
   greatest-in = joinRows-in (reg .join-in) (S .rows) (S .least) (rep .bottom-in) (λ j k. row-in j (suc k))
 
-  row-below : (j k : ℕ) (d : Cut) → row S j k ≡ some d → d ⊑ greatest S
-  unfolding greatest row
-  row-below j zero d e = let z : S .least ≡ d = cc in rw (← z) (joinRows-base (S .rows) (S .least))
-  row-below j (suc k) d e = joinRows-above (S .rows) (S .least) j k d e
-
   -- And it contains all others.
   pub greatest-above : (e : Cut) → P e → e ⊑ greatest S
   greatest-above e u j = pick (row S j (e ! j)) (rep .rows-least j (e ! j) (reg .consistent e u .within j)) refl
     where
       pick : (o : Option Cut) → Least P (λ d. clock K j (e ! j) ⊑ d) o → row S j (e ! j) ≡ o → e ! j ≤ greatest S ! j
       pick none h q = absurd (h e u (reg .consistent e u .closed j))
-      pick (some d) h q = omega (arith, h .1 j, row-below j (e ! j) d q j, clock-own K ok j (e ! j) (reg .consistent e u .within j))
+      pick (some d) h q = omega (arith, h .1 j, row-below S j (e ! j) d q j, clock-own K ok j (e ! j) (reg .consistent e u .within j))
 
 -- The structure whose rows are f at each event's clock.
 abbrev pub table : Computation → (Cut → Option Cut) → List Cut → Cut → Structure

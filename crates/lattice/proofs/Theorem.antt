@@ -1,22 +1,26 @@
 -- The basis theorem, in two parts. The basis of a normal form has exactly the cuts that satisfy it; and the normal forms of a
 -- formula are satisfied where it is true, as true, and where it is not, as false. Neither part looks at a sign that is not used.
-use mathlib.Core.Path.{_≡_}
+use mathlib.Core.Path.{_≡_, sym, subst}
 use mathlib.Core.Logic.{_↔_, _⊎_, inl, inr}
 use mathlib.Core.Bool.{true, false}
+use mathlib.Core.List.{List}
 use Rattle.model.specs.Cut.{Cut}
-use Rattle.model.specs.Computation.{Computation, Consistent}
+use Rattle.model.specs.Computation.{Computation, Consistent, full}
 use Rattle.model.specs.Atom.{isTrue}
 use Rattle.model.specs.Formula.{Formula}
 use Rattle.model.specs.Formula.Formula.{atom, not, and, or, possibly, always}
 use Rattle.model.specs.Truth.{True, Possibly}
 use Rattle.model.specs.Rules.{Normal, asTrue, asFalse}
 use Rattle.model.specs.Rules.Normal.{literal, both, either, possible, impossible}
-use Rattle.model.specs.Structure.{belongsAny}
+use Rattle.model.specs.Structure.{Structure, belongsAny}
 use Rattle.model.specs.Basis.{basis}
 use Rattle.model.specs.Answer.{trueAt}
+use Rattle.lattice.specs.Ascending.{RowsAscend}
 use Rattle.lattice.proofs.Valid.{Valid}
 use Rattle.lattice.proofs.Tests.{yes-or-no, clash, false-iff}
-use Rattle.lattice.proofs.Bases.{IsBasis, basis-iff, append-basis}
+use Rattle.lattice.proofs.Lists.{All, all-map}
+use Rattle.lattice.proofs.Bases.{Good, IsBasis, basis-iff, append-basis}
+use Rattle.lattice.proofs.Ascending.{good-ascend}
 use Rattle.lattice.proofs.Steps.{pairs-basis, lowered-basis, barred-basis}
 use Rattle.lattice.proofs.Atoms.{literal-basis}
 
@@ -67,6 +71,13 @@ module _ (K : Computation) (ok : Valid K) where
   basis-sat (either p q) = append-basis (basis-sat p) (basis-sat q)
   basis-sat (possible p) = lowered-basis K ok (basis-sat p)
   basis-sat (impossible p) = barred-basis K ok (basis-sat p)
+
+  -- Each structure of a basis is good, and its rows ascend.
+  pub basis-good : (p : Normal) (L : List Structure) → L ≡ basis K p → All (Good K) L
+  basis-good p L e = subst (All (Good K)) (sym e) (basis-sat p .all-good)
+
+  pub basis-ascend : (p : Normal) (L : List Structure) → L ≡ basis K p → All (RowsAscend (full K)) L
+  basis-ascend p L e = all-map (good-ascend K ok) (basis-good p L e)
 
   -- So it is decided at a consistent cut.
   decided : (p : Normal) (c : Cut) → Consistent K c → Dec (Sat K p c)

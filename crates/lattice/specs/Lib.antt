@@ -2,3 +2,4 @@ pub mod Signed
 pub mod OfStation
 pub mod Starts
 pub mod Chains
+pub mod Ascending

@@ -18,7 +18,7 @@ use Rattle.structure.specs.Layout.{structureAt, standing, cells, barCells}
 use Rattle.lattice.proofs.Sums.{sum-snoc}
 use Rattle.cells.proofs.Parts.{front-same, part-same, cell-same, paste-part}
 use Rattle.structure.proofs.Places.{one-more, cells-are, next-fits}
-use Rattle.structure.proofs.Standing.{structure-same, standing-same, standing-add}
+use Rattle.structure.proofs.Standing.{structure-same, standing-same, standing-add, standing-each}
 use Rattle.modal.specs.Post.{Present}
 use Rattle.modal.proofs.Laws.{each-append}
 use Rattle.structure.specs.declared.Shape.{Shape}
@@ -31,7 +31,6 @@ use Rattle.lattice.proofs.Bases.{Good}
 use Rattle.pair.specs.Post.{structureOf, standingFrom, Put, OnePair}
 use Rattle.pairs.specs.declared.Row.{Row}
 use Rattle.pairs.specs.Post.{RowPair, AllPairs}
-use Rattle.pairs.proofs.Goods.{standing-each}
 
 -- LISTS
 
@@ -225,7 +224,7 @@ module _ (x : Shape) (z : 0 < x .n) (first w w₁ b b₁ : List ℕ) (o : ℕ) (
         ∙ at-sum (x .n) (x .e) z K counted l j w b
 
     good-at : j < r → All (Good K) (standingFrom (x .n) (x .e) K w b l r) → Good K (structureOf (x .n) (x .e) K w b (l + j))
-    good-at h a = subst (Good K) from-at (standing-each (Good K) (x .n) (full K) r (drop (l * ((x .e + 1) * x .n)) w) (drop (l * (16 * x .n)) b) a j h)
+    good-at h a = subst (Good K) from-at (standing-each (x .n) (full K) (Good K) r (drop (l * ((x .e + 1) * x .n)) w) (drop (l * (16 * x .n)) b) a j h)
 
     mark-at : (marks : List ℕ) → j < r → Marked K (standingFrom (x .n) (x .e) K w b l r) marks → Mark K (getD marks j 0) (structureOf (x .n) (x .e) K w b (l + j))
     mark-at marks h a = subst (Mark K (getD marks j 0)) from-at (standing-mark K (x .n) (full K) r (drop (l * ((x .e + 1) * x .n)) w) (drop (l * (16 * x .n)) b) marks a j h)
@@ -250,7 +249,7 @@ module _ (x : Shape) (z : 0 < x .n) (first w w₁ b b₁ : List ℕ) (o : ℕ) (
       let cells-are = cells-is (x .n) (x .e) z K (g .begun .counted) in
       let kept = structure-kept (x .n) (x .e) z K (g .begun .counted) o w₁ w b₁ b ew eb i (omega arith) in
       let from = from-kept (x .n) (x .e) z K (g .begun .counted) o w₁ w b₁ b ew eb (l .count) (r .count) hr in
-      let good = standing-each (Good K) (x .n) (full K) (l .count) w b (g .bases .good-left) i h in
+      let good = standing-each (x .n) (full K) (Good K) (l .count) w b (g .bases .good-left) i h in
       let mark = standing-mark K (x .n) (full K) (l .count) w b (l .stations) (g .bases .marked-left) i h in
       record {
         begun = g .begun;

@@ -12,6 +12,7 @@ use Rattle.model.specs.Lists.{sum, total}
 use Rattle.model.specs.Cut.{Cut}
 use Rattle.model.specs.Structure.{Structure}
 use Rattle.structure.specs.Layout.{rowsAt, stationsAt, barsAt, structureAt, cells, barCells, standing}
+use Rattle.lattice.proofs.Lists.{All, all-head, all-tail}
 use Rattle.cells.proofs.Parts.{front-same, part-same, cell-same}
 
 behind : (n m : ℕ) → n + m * n ≡ suc m * n
@@ -99,3 +100,15 @@ module _ (n : ℕ) (counts : List ℕ) where
   unfolding standing
   length-standing zero w bs = refl
   length-standing (suc k) w bs = ap suc (length-standing k (drop (cells n counts) w) (drop (barCells n) bs))
+
+  -- What all have the i-th has.
+  pub standing-each : (G : Structure → Type 0) (k : ℕ) (w bs : List ℕ) → All G (standing n counts k w bs) → (i : ℕ) → i < k
+      → G (structureAt n counts (drop (i * cells n counts) w) (drop (i * barCells n) bs))
+  unfolding standing
+  standing-each G zero w bs a i h = absurd (omega arith)
+  standing-each G (suc k) w bs a zero h = rw (zero-mul (cells n counts), zero-mul (barCells n)) (all-head a)
+  standing-each G (suc k) w bs a (suc i) h =
+      let c = cells n counts in
+      let b = barCells n in
+      rw (← behind c i, ← behind b i, ← drop-drop (i * c) c w, ← drop-drop (i * b) b bs)
+      (standing-each G k (drop c w) (drop b bs) (all-tail a) i (omega arith))
