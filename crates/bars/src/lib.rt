@@ -1,12 +1,14 @@
 // The bars of structures in a bar space: those of two joined, and the test whether a structure's greatest cut is contained in one.
+use structure::Shape;
 ghost use mathlib.Core.Path.{_≡_};
 ghost use mathlib.Core.List.{List};
 ghost use Prim.Native.Nat.{ℕ, _+_, _*_, _≤_, _<_};
-ghost use lib.ListN.{length, drop};
+ghost use lib.ListN.{length, take, drop};
 ghost use Rattle.model.specs.Cut.{insideAny};
-ghost use Rattle.model.specs.Lists.{total};
 ghost use Rattle.model.specs.Structure.{greatest};
-ghost use Rattle.structure.specs.Layout.{structureAt, barsAt};
+ghost use Rattle.lattice.specs.Ascending.{RowsAscend};
+ghost use Rattle.structure.specs.Layout.{barsAt, placed};
+ghost use Rattle.structure.specs.Shaped.{Shaped};
 ghost use Rattle.bars.specs.Post.{BarsJoined};
 
 // The number of bars at a place.
@@ -37,14 +39,16 @@ pub fn join_bars(bs: &mut [u8], i: usize, j: usize, o: usize, n: usize)
 }
 
 // Is the greatest cut of a structure contained in one of its bars? Where there are none, it is not worked out.
-pub fn barred_out(ws: &[u8], at: usize, bs: &[u8], bar: usize, n: usize, e: usize) -> bool
-    requires { ⌜ (0 < n) × (n ≤ 8) × (at + (e + 1) * n ≤ length (now ws)) × (bar + 16 * n ≤ length (now bs)) ⌝ }
-    ensures { λ r. ⌜ ((counts d : List ℕ) → total counts ≡ e → r ≡ insideAny (greatest (structureAt n counts (drop at (now (ws .entry))) d)) (barsAt n 16 (drop bar (now (bs .entry))))) ⌝ }
+pub fn barred_out(ws: &[u8], at: usize, bs: &[u8], bar: usize, x: Shape) -> bool
+    requires { ⌜ Shaped x ⌝ }
+    requires { ⌜ (at + (x .e + 1) * x .n ≤ length (now ws)) × (bar + 16 * x .n ≤ length (now bs)) ⌝ }
+    ensures { λ r. ⌜ ((d : List ℕ) → RowsAscend (take (x .n) (x .counts)) (placed (x .n) (x .counts) (now (ws .entry)) at d)
+        → r ≡ insideAny (greatest (placed (x .n) (x .counts) (now (ws .entry)) at d)) (barsAt (x .n) 16 (drop bar (now (bs .entry))))) ⌝ }
 {
     if bs[bar] == cells::NONE {
         return false;
     }
     let mut g = [0u8; 8];
-    structure::greatest(ws, at, n, e, &mut g);
-    structure::barred(&g, bs, bar, n)
+    structure::greatest(ws, at, x, &mut g);
+    structure::barred(&g, bs, bar, x.n)
 }

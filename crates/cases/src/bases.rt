@@ -8,6 +8,7 @@ ghost use lib.ListN.{length};
 ghost use Rattle.model.specs.Limits.{limits, storeSize, workspaceSize, barspaceSize};
 ghost use Rattle.model.specs.Formula.{Formula};
 ghost use Rattle.model.specs.Computation.{Computation};
+ghost use Rattle.structure.specs.Shaped.{Shaped};
 ghost use Rattle.load.specs.Loading.{Accepts};
 ghost use Rattle.question.specs.Questions.{Question, cellsHeld};
 ghost use Rattle.opening.specs.Prepared.{Prepared};
@@ -28,25 +29,30 @@ fn print_bars(bs: &[u8], at: usize, n: usize)
 }
 
 // The structure at a place of the workspace, with its bars.
-fn print_structure(ws: &[u8], at: usize, bs: &[u8], bar: usize, n: usize, e: usize)
-    requires { ⌜ (0 < n) × (n ≤ limits .stations) × (e ≤ limits .events) × (at + (e + 1) * n ≤ length (now ws)) × (bar + 16 * n ≤ length (now bs)) ⌝ }
+fn print_structure(ws: &[u8], at: usize, bs: &[u8], bar: usize, x: Shape)
+    requires { ⌜ Shaped x ⌝ }
+    requires { ⌜ (at + (x .e + 1) * x .n ≤ length (now ws)) × (bar + 16 * x .n ≤ length (now bs)) ⌝ }
 {
+    let n = x.n;
     trial::print_line(b"least", &ws[at..at + n]);
     let mut greatest = [0u8; 8];
-    structure::greatest(ws, at, n, e, &mut greatest);
+    structure::greatest(ws, at, x, &mut greatest);
     trial::print_line(b"greatest", &greatest[0..n]);
     print_bars(bs, bar, n);
 }
 
 // The structures at the front of the workspace.
-fn print_structures(ws: &[u8], bs: &[u8], count: usize, n: usize, e: usize)
-    requires { ⌜ (0 < n) × (n ≤ limits .stations) × (e ≤ limits .events) × (count ≤ 16) × (count * ((e + 1) * n) ≤ length (now ws)) × (count * (16 * n) ≤ length (now bs)) ⌝ }
+fn print_structures(ws: &[u8], bs: &[u8], count: usize, x: Shape)
+    requires { ⌜ Shaped x ⌝ }
+    requires { ⌜ (count ≤ 16) × (count * ((x .e + 1) * x .n) ≤ length (now ws)) × (count * (16 * x .n) ≤ length (now bs)) ⌝ }
 {
+    let n = x.n;
+    let e = x.e;
     let size = (e + 1) * n;
     let slot = 16 * n;
     let mut i = 0;
     while i < count {
-        print_structure(ws, i * size, bs, i * slot, n, e);
+        print_structure(ws, i * size, bs, i * slot, x);
         i += 1;
     }
 }
@@ -56,12 +62,10 @@ fn print_basis(q: &[u8], x: Shape, starts: &[u8], facts: &[u16], ws: &mut [u8], 
     requires { ⌜ ((K : Computation) × (f : Formula) × Question K f (now q) x (now starts) (now facts) × (cellsHeld f x ≤ length (now ws))) ⌝ }
     requires { ⌜ barspaceSize ≤ length (now bs) ⌝ }
 {
-    let n = x.n;
-    let e = x.e;
     let basis = question::work_out(q, x, starts, facts, ws, bs);
     let count = basis.sets.count;
     trial::print_count(b"structures", count);
-    print_structures(ws, bs, count, n, e);
+    print_structures(ws, bs, count, x);
     trial::print_count(b"rounds", basis.rounds as usize);
 }
 

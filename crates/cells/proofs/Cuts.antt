@@ -50,9 +50,6 @@ join-swap (x ∷ a) [] c = sym (join-nil (join (x ∷ a) c))
 join-swap (x ∷ a) (y ∷ b) [] = refl
 join-swap (x ∷ a) (y ∷ b) (z ∷ c) = let m : max (max x y) z ≡ max (max x z) y = omega arith in rw (m, join-swap a b c)
 
-pub join-assoc : (a b c : Cut) → join (join a b) c ≡ join a (join b c)
-join-assoc a b c = ap (λ (x : Cut). join x c) (join-comm a b) ∙ join-swap b a c ∙ join-comm (join b c) a
-
 -- Zeros joined with as many counts, or more.
 pub join-zeros : (n m : ℕ) (b : Cut) → n ≤ m → n ≤ length b → join (take n (replicate m 0)) (take n b) ≡ take n b
 unfolding join

@@ -13,6 +13,7 @@ use Rattle.model.specs.Structure.{Structure, greatest, belongs, belongsAny}
 use Rattle.model.specs.Answer.{tops, sort}
 use Rattle.structure.specs.Layout.{cutsAt, structureAt, standing}
 use Rattle.structure.proofs.Places.{cells-are}
+use Rattle.lattice.proofs.Lists.{All, all-head, all-tail}
 use Rattle.lattice.proofs.Sorting.{sort-tops}
 use Rattle.listing.specs.Cuts.{added}
 
@@ -47,6 +48,11 @@ module _ (n e k : ℕ) (counts ws : List ℕ) (t : total counts ≡ e) where
     none-belongs h = let s : k - i ≡ 0 = omega arith in rw s
 
   -- LISTING
+
+  -- What all from the j-th on have the j-th has, and all behind it.
+  pub all-from : {G : Structure → Type 0} (i j : ℕ) (bs : List ℕ) → i ≡ j + 1 → j < k → All G (standing n counts (k - j) (drop (j * ((e + 1) * n)) ws) bs)
+      → G (structureAt n counts (drop (j * ((e + 1) * n)) ws) bs) × All G (standing n counts (k - i) (drop (i * ((e + 1) * n)) ws) (drop (16 * n) bs))
+  all-from i j bs s h a = let b = rw (standing-from j bs h) at a in (all-head b, rw s (all-tail b))
 
   -- One structure more in front: its greatest cut g is added.
   pub list-more : (i j : ℕ) (bs : List ℕ) (g : Cut) (was r : List Cut) → i ≡ j + 1 → j < k

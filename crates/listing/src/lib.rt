@@ -7,13 +7,15 @@ ghost use Prim.Native.Nat.{ℕ, _+_, _*_, _-_, _≤_, _<_};
 ghost use lib.ListN.{length, take, drop};
 ghost use lib.Seq.{slice};
 ghost use Rattle.model.specs.Limits.{limits};
-ghost use Rattle.model.specs.Lists.{total};
 ghost use Rattle.model.specs.Formula.{Formula};
 ghost use Rattle.model.specs.Cut.{empty, insideAny};
 ghost use Rattle.model.specs.Computation.{Computation};
 ghost use Rattle.model.specs.Structure.{greatest, belongsAny};
 ghost use Rattle.model.specs.Answer.{notInside, tops, precedes, insert, sort, answer};
+ghost use Rattle.lattice.specs.Ascending.{RowsAscend};
+ghost use Rattle.lattice.proofs.Lists.{All};
 ghost use Rattle.structure.specs.Layout.{cutsAt, standing};
+ghost use Rattle.structure.specs.Shaped.{Shaped};
 ghost use Rattle.listing.specs.Cuts.{added};
 ghost use Rattle.listing.specs.Stands.{Stands};
 ghost use Rattle.listing.specs.Worked.{Worked, answerOf};
@@ -121,17 +123,21 @@ fn add_cut(cuts: &mut [u8], count: usize, n: usize, cut: &[u8]) -> usize
 }
 
 // The greatest cuts of the structures, the last first: those contained in no other, in order.
-fn list_cuts(ws: &[u8], count: usize, n: usize, e: usize, cuts: &mut [u8]) -> usize
-    requires { ⌜ (0 < n) × (n ≤ limits .stations) × (count * ((e + 1) * n) ≤ length (now ws)) × (count * n ≤ length (now cuts)) ⌝ }
-    ensures { λ r. ⌜ (r ≤ count) × ((counts bs : List ℕ) → total counts ≡ e → cutsAt n r (now (cuts .exit)) ≡ sort (tops (map greatest (standing n counts count (now (ws .entry)) bs)))) ⌝ }
+fn list_cuts(ws: &[u8], count: usize, x: Shape, cuts: &mut [u8]) -> usize
+    requires { ⌜ Shaped x ⌝ }
+    requires { ⌜ (count * ((x .e + 1) * x .n) ≤ length (now ws)) × (count * x .n ≤ length (now cuts)) ⌝ }
+    ensures { λ r. ⌜ (r ≤ count) × ((bs : List ℕ) → All (RowsAscend (take (x .n) (x .counts))) (standing (x .n) (take (x .n) (x .counts)) count (now (ws .entry)) bs)
+        → cutsAt (x .n) r (now (cuts .exit)) ≡ sort (tops (map greatest (standing (x .n) (take (x .n) (x .counts)) count (now (ws .entry)) bs)))) ⌝ }
 {
+    let n = x.n;
+    let e = x.e;
     let mut cut = [0u8; 8];
     let mut listed = 0;
     let mut i = count;
     while 0 < i {
         i -= 1;
         let at = i * ((e + 1) * n);
-        structure::greatest(ws, at, n, e, &mut cut);
+        structure::greatest(ws, at, x, &mut cut);
         listed = add_cut(cuts, listed, n, &cut);
     }
     listed
@@ -179,10 +185,8 @@ pub fn list(ws: &[u8], bs: &[u8], count: usize, x: Shape, rounds: u32, cuts: &mu
     requires { ⌜ 16 * limits .stations ≤ length (now cuts) ⌝ }
     ensures { λ r. ⌜ (r .count ≤ 16) × ((K : Computation) (f : Formula) → Worked K f x count rounds (now (ws .entry)) (now (bs .entry)) → answerOf (x .n) r (now (cuts .exit)) ≡ answer K f) ⌝ }
 {
-    let n = x.n;
-    let e = x.e;
     let start = starts(ws, bs, count, x);
-    let listed = list_cuts(ws, count, n, e, cuts);
+    let listed = list_cuts(ws, count, x, cuts);
     Listing {
         start: start,
         count: listed,

@@ -11,23 +11,26 @@ use lib.ListN.{length, getD, take, drop, set, replicate, length-drop, length-rep
 use lib.Seq.{paste, length-take-le, take-at, drop-at, drop-drop, getD-take, getD-drop, getD-append-add}
 use borrow.Author.Tests.{eq-eqb, ne-eqb, eqb-false, ltb-true, ltb-false}
 use borrow.Rule.Slice.PartMut.{putMid}
-use Rattle.model.specs.Lists.{total}
 use Rattle.model.specs.Cut.{Cut, inside, insideAny}
 use Rattle.model.specs.Computation.{Computation, full}
 use Rattle.model.specs.Structure.{Structure, joinRow, joinRows, greatest, keep, build}
 use Rattle.model.specs.Basis.{each, below, lowered, barred}
+use Rattle.lattice.specs.Ascending.{RowsAscend}
+use Rattle.lattice.proofs.Lists.{All, all-left}
 use Rattle.lattice.proofs.Cuts.{⊑-inside, join-at, empty-⊑}
 use Rattle.structure.specs.Layout.{decoded, rowsAt, stationsAt, structureAt, standing, barsAt, cells, barCells}
 use Rattle.structure.specs.declared.Shape.{Shape}
 use Rattle.structure.specs.Laid.{Laid}
+use Rattle.structure.specs.Greatest.{GreatestAt}
 use Rattle.steps.specs.Rows.{rowAt, absent, belowRow, Ended}
-use Rattle.cells.proofs.Parts.{drop-whole, part-same, paste-part, paste-take, paste-behind, put-end}
+use Rattle.cells.proofs.Parts.{drop-whole, part-same, paste-front, paste-part, paste-behind, put-end}
 use Rattle.structure.proofs.Rows.{decoded-none, decoded-some}
 use Rattle.structure.proofs.Places.{one-more, cells-are, next-fits, row-fits}
-use Rattle.steps.proofs.Parts.{row-zero, row-suc, rows-more}
+use Rattle.steps.proofs.Parts.{row-zero, row-suc}
 use Rattle.steps.proofs.Built.{start-there, build-there, keep-free, no-bars}
 use Rattle.steps.proofs.Atoms.{not-both}
-use Rattle.structure.proofs.Standing.{standing-same, standing-add}
+use Rattle.structure.proofs.Standing.{set-same, standing-same, standing-add, standing-each}
+use Rattle.structure.proofs.LastRows.{greatest-of, starts-ascend}
 use Rattle.modal.specs.Post.{Present, Lowered, Possible, Impossible}
 
 -- ROWS BELOW A CUT
@@ -124,7 +127,7 @@ module _ (shape : Shape) (i : ℕ) (starts w w₁ p b b₁ q : List ℕ) (z : 0 
   pub lower-turn : Possible shape (i + 1) starts w w₂ b b₂
   unfolding lowered each standing
   lower-turn = record {
-    stands = λ K laid.
+    stands = λ K laid asc.
         let c = cells-are (shape .n) (shape .e) (full K) (laid .counted) in
         let k : i * cells (shape .n) (full K) ≡ i * ((shape .e + 1) * shape .n) = ap (λ (x : ℕ). i * x) c in
         let x : drop (i * cells (shape .n) (full K)) w₂ ≡ p = ap (λ (x : ℕ). drop x w₂) k ∙ drop-at (take (i * ((shape .e + 1) * shape .n)) w₁) p (i * ((shape .e + 1) * shape .n)) (length-take-le (i * ((shape .e + 1) * shape .n)) w₁ hw) in
@@ -132,11 +135,15 @@ module _ (shape : Shape) (i : ℕ) (starts w w₁ p b b₁ q : List ℕ) (z : 0 
         let old : standing (shape .n) (full K) i w₂ b₂ ≡ standing (shape .n) (full K) i w₁ b₁ =
         standing-same (shape .n) (full K) i w₂ w₁ b₂ b₁ z (ap (λ (j : ℕ). take j w₂) k ∙ take-at (take (i * ((shape .e + 1) * shape .n)) w₁) p (i * ((shape .e + 1) * shape .n)) (length-take-le (i * ((shape .e + 1) * shape .n)) w₁ hw) ∙ ap (λ (j : ℕ). take j w₁) (sym k))
         (take-at (take (i * (16 * shape .n)) b₁) q (i * (16 * shape .n)) (length-take-le (i * (16 * shape .n)) b₁ hb)) in
+        let here : structureAt (shape .n) (full K) (drop (i * ((shape .e + 1) * shape .n)) w₁) (drop (i * (16 * shape .n)) b₁) ≡ structureAt (shape .n) (full K) (drop (i * cells (shape .n) (full K)) w) (drop (i * barCells (shape .n)) b) =
+        ap₂ (structureAt (shape .n) (full K)) (done .cells-behind ∙ ap (λ (j : ℕ). drop j w) (sym k)) (done .bars-behind) in
+        let own = standing-each (shape .n) (full K) (RowsAscend (full K)) (i + 1) w b asc i (omega arith) in
+        let others = all-left (standing (shape .n) (full K) i w b) _ (subst (All (RowsAscend (full K))) (standing-add (shape .n) (full K) i 1 w b) asc) in
         let new : standing (shape .n) (full K) 1 (drop (i * cells (shape .n) (full K)) w₂) (drop (i * barCells (shape .n)) b₂) ≡ lowered K (standing (shape .n) (full K) 1 (drop (i * cells (shape .n) (full K)) w) (drop (i * barCells (shape .n)) b)) =
-        ap₂ (standing (shape .n) (full K) 1) x y ∙ one .stands K laid
-        ∙ ap₂ (λ (u v : List ℕ). build K (below (greatest (structureAt (shape .n) (full K) u v))) []) (done .cells-behind ∙ ap (λ (j : ℕ). drop j w) (sym k)) (done .bars-behind)
+        ap₂ (standing (shape .n) (full K) 1) x y ∙ one .stands K laid (subst (RowsAscend (full K)) (sym here) own)
+        ∙ ap (λ (S : Structure). build K (below (greatest S)) []) here
         ∙ sym (append-nil _) in
-        standing-add (shape .n) (full K) i 1 w₂ b₂ ∙ ap₂ (λ (l m : List Structure). l ++ m) (old ∙ done .stands K laid) new
+        standing-add (shape .n) (full K) i 1 w₂ b₂ ∙ ap₂ (λ (l m : List Structure). l ++ m) (old ∙ done .stands K laid others) new
         ∙ sym (each-append (λ S. build K (below (greatest S)) []) (standing (shape .n) (full K) i w b) _)
         ∙ ap (lowered K) (sym (standing-add (shape .n) (full K) i 1 w b));
     least = least-more;
@@ -146,7 +153,7 @@ module _ (shape : Shape) (i : ℕ) (starts w w₁ p b b₁ q : List ℕ) (z : 0 
 
 pub lower-none : (shape : Shape) (starts w b : List ℕ) → Possible shape 0 starts w w b b
 unfolding standing lowered each
-lower-none shape starts w b = record { stands = λ K laid. refl; least = λ i h. absurd (not-suc-le-zero h); cells-behind = refl; bars-behind = refl }
+lower-none shape starts w b = record { stands = λ K laid asc. refl; least = λ i h. absurd (not-suc-le-zero h); cells-behind = refl; bars-behind = refl }
 
 pub lower-all : (shape : Shape) (i k : ℕ) (starts w w₂ b b₂ : List ℕ) → i ≡ k → Possible shape i starts w w₂ b b₂ → Possible shape k starts w w₂ b b₂
 lower-all shape i k starts w w₂ b b₂ q d = rw (← q) d
@@ -171,14 +178,14 @@ module _ (shape : Shape) (i : ℕ) (starts w w₁ p b b₁ q : List ℕ) (z : 0 
       (lower-turn shape i starts w w₁ p b b₁ q z hw hb done one′))
 
 pub lower-one : (shape : Shape) (starts w w₂ b g : List ℕ) → 0 < shape .n → 16 * shape .n ≤ length b → rowAt (shape .n) 0 starts ≡ replicate (shape .n) 0
-    → ((counts d : List ℕ) → total counts ≡ shape .e → take (shape .n) g ≡ greatest (structureAt (shape .n) counts w d))
+    → GreatestAt shape w 0 (take (shape .n) g)
     → ((i : ℕ) → i ≤ shape .e → rowAt (shape .n) i w₂ ≡ belowRow (shape .n) (take (shape .n) g) starts i) → drop ((shape .e + 1) * shape .n) w₂ ≡ drop ((shape .e + 1) * shape .n) w → Lowered shape starts w w₂ b (set b 0 255)
 lower-one shape starts w w₂ b g z l f top rows behind =
     let least : getD w₂ 0 0 ≡ 255 → ⊥ = below-least (shape .n) (take (shape .n) g) starts w₂ z f (rows 0 (omega arith)) in
     record {
-      stands = λ K laid.
+      stands = λ K laid asc.
           lowered-stands K shape starts laid (greatest (structureAt (shape .n) (full K) w b)) w₂ (set b 0 255)
-          (λ i h. rows i h ∙ ap (λ (x : Cut). belowRow (shape .n) x starts i) (top (full K) b (laid .counted))) least (lib.Seq.getD-set-same b 0 255 0 (omega arith));
+          (λ i h. rows i h ∙ ap (λ (x : Cut). belowRow (shape .n) x starts i) (greatest-of shape (full K) w 0 (take (shape .n) g) (laid .counts-are) top b asc)) least (lib.Seq.getD-set-same b 0 255 0 (omega arith));
       least = least;
       cells-behind = behind;
       bars-behind = lib.Seq.drop-set-lt (16 * shape .n) b 0 255 (omega arith);
@@ -187,15 +194,19 @@ lower-one shape starts w w₂ b g z l f top rows behind =
 -- BARS
 
 -- Bar i is written.
-pub bars-turn : (n e i : ℕ) (w b b₂ g : List ℕ) → i * n + n ≤ length b → length g ≡ 8 → n ≤ 8
-    → ((counts d : List ℕ) → total counts ≡ e → take n g ≡ greatest (structureAt n counts (drop (i * ((e + 1) * n)) w) d)) → b₂ ≡ paste b (i * n) (drop 0 g) n
-    → ((r : ℕ) → r < i → (counts d : List ℕ) → total counts ≡ e → rowAt n r b ≡ greatest (structureAt n counts (drop (r * ((e + 1) * n)) w) d))
-    → (r : ℕ) → r < i + 1 → (counts d : List ℕ) → total counts ≡ e → rowAt n r b₂ ≡ greatest (structureAt n counts (drop (r * ((e + 1) * n)) w) d)
-bars-turn n e i w b b₂ g h l k top q inv r s counts d t =
-    let l₂ : length (take n g) ≡ n = length-take-le n g (omega arith) in
-    let f : ℕ → List ℕ = λ j. greatest (structureAt n counts (drop (j * ((e + 1) * n)) w) d) in
-    rows-more n f i b b₂ h (ap length (sym (top counts d t)) ∙ l₂)
-    (q ∙ paste-take b (i * n) g n ∙ ap (λ (x : List ℕ). paste b (i * n) x n) (top counts d t)) (λ j u. inv j u counts d t) r s
+pub bars-turn : (P : ℕ → Cut → Type 0) (n i : ℕ) (b b₂ g : List ℕ) → i * n + n ≤ length b → n ≤ length g → P i (take n g) → b₂ ≡ paste b (i * n) (drop 0 g) n
+    → ((r : ℕ) → r < i → P r (rowAt n r b)) → (r : ℕ) → r < i + 1 → P r (rowAt n r b₂)
+bars-turn P n i b b₂ g h l top q inv r s = go (ltb r i) refl
+  where
+    go : (t : Bool) → ltb r i ≡ t → P r (rowAt n r b₂)
+    go true e =
+        let a : r < i = ltb-true r i e in
+        let k : take (i * n) b₂ ≡ take (i * n) b = ap (take (i * n)) q ∙ paste-front b (i * n) g n (omega arith) l in
+        subst (P r) (sym (part-same (i * n) b₂ b k (r * n) n (next-fits r i n a))) (inv r a)
+    go false e =
+        let a : r ≡ i = omega (arith, ltb-false r i e) in
+        let k : rowAt n i b₂ ≡ take n g = ap (rowAt n i) q ∙ paste-part b (i * n) g n (omega arith) l in
+        rw a (subst (P i) (sym k) top)
 
 -- Nothing behind it changes.
 pub bars-behind : (n i : ℕ) (b₀ b b₂ g : List ℕ) → i * n + n ≤ length b → n ≤ length g → b₂ ≡ paste b (i * n) (drop 0 g) n → drop (i * n) b ≡ drop (i * n) b₀
@@ -266,7 +277,7 @@ all-rows n e starts w w₂ l q i k =
 
 module _ (shape : Shape) (k : ℕ) (starts w w₂ b b₁ b₂ : List ℕ) (z : 0 < shape .n) (few : k ≤ 16) (hs : (shape .e + 1) * shape .n ≤ length starts)
     (there : getD starts 0 0 ≡ 255 → ⊥) (firsts : Present ((shape .e + 1) * shape .n) k w)
-    (rows : (i : ℕ) → i < k → (counts d : List ℕ) → total counts ≡ shape .e → rowAt (shape .n) i b₁ ≡ greatest (structureAt (shape .n) counts (drop (i * ((shape .e + 1) * shape .n)) w) d))
+    (rows : (i : ℕ) → i < k → GreatestAt shape w (i * ((shape .e + 1) * shape .n)) (rowAt (shape .n) i b₁))
     (end : Ended 0 k (shape .n) b₁ b₂) (q : w₂ ≡ paste w 0 (drop 0 starts) ((shape .e + 1) * shape .n)) where
   first-all : getD w₂ 0 0 ≡ 255 → ⊥
   first-all f =
@@ -276,14 +287,21 @@ module _ (shape : Shape) (k : ℕ) (starts w w₂ b b₁ b₂ : List ℕ) (z : 0
   kept-rows : (i : ℕ) → i < k → rowAt (shape .n) i b₂ ≡ rowAt (shape .n) i b₁
   kept-rows i h = part-same (0 + k * shape .n) b₂ b₁ (end .front) (i * shape .n) (shape .n) (omega (arith, next-fits i k (shape .n) h))
 
-  module _ (K : Computation) (laid : Laid K shape starts) where
+  module _ (K : Computation) (laid : Laid K shape starts) (asc : All (RowsAscend (full K)) (standing (shape .n) (full K) k w b)) where
+    greatest-there : (j : ℕ) → j < k → rowAt (shape .n) j b₁ ≡ greatest (structureAt (shape .n) (full K) (drop (j * cells (shape .n) (full K)) w) (drop (j * barCells (shape .n)) b))
+    greatest-there j h =
+        let c = cells-are (shape .n) (shape .e) (full K) (laid .counted) in
+        let top : GreatestAt shape w (j * cells (shape .n) (full K)) (rowAt (shape .n) j b₁) = rw c (rows j h) in
+        greatest-of shape (full K) w (j * cells (shape .n) (full K)) (rowAt (shape .n) j b₁) (laid .counts-are) top (drop (j * barCells (shape .n)) b)
+        (standing-each (shape .n) (full K) (RowsAscend (full K)) k w b asc j h)
+
     barred-is : barred K (standing (shape .n) (full K) k w b) ≡ keep (structureAt (shape .n) (full K) w₂ b₂)
     unfolding barred
     barred-is =
         let c = sym (cells-are (shape .n) (shape .e) (full K) (laid .counted)) in
         let bars : barsAt (shape .n) 16 b₂ ≡ map greatest (standing (shape .n) (full K) k w b) =
         bars-are (shape .n) z 16 k b₂ (full K) w b few
-        (λ j h. kept-rows j h ∙ rows j h (full K) (drop (j * barCells (shape .n)) b) (laid .counted) ∙ ap (λ (x : ℕ). greatest (structureAt (shape .n) (full K) (drop (j * x) w) (drop (j * barCells (shape .n)) b))) c)
+        (λ j h. kept-rows j h ∙ greatest-there j h)
         (λ j h f. firsts j h (ap (λ (x : ℕ). getD w (j * x) 0) c ∙ f))
         (λ h. ap (λ (x : ℕ). getD b₂ x 0) (let o : k * shape .n ≡ 0 + k * shape .n = omega arith in o) ∙ end .ends h) in
         build-there K shape starts laid some w₂
@@ -291,14 +309,22 @@ module _ (shape : Shape) (k : ℕ) (starts w w₂ b b₁ b₂ : List ℕ) (z : 0
         (map greatest (standing (shape .n) (full K) k w b)) first-all
         ∙ ap (λ (l : List Cut). keep (record { least = take (shape .n) w₂; rows = stationsAt (shape .n) (full K) (drop (shape .n) w₂); bars = l })) (sym bars)
 
-  module _ (g : List ℕ) (t : Bool) (top : (counts d : List ℕ) → total counts ≡ shape .e → take (shape .n) g ≡ greatest (structureAt (shape .n) counts (drop 0 w₂) d))
+  -- The starts ascend, so the greatest of all cuts is found.
+  all-top : (K : Computation) → Laid K shape starts → (g : Cut) → GreatestAt shape w₂ 0 g → g ≡ greatest (structureAt (shape .n) (full K) w₂ b₂)
+  all-top K laid g top =
+      let c = cells-are (shape .n) (shape .e) (full K) (laid .counted) in
+      let e : take (cells (shape .n) (full K)) w₂ ≡ take (cells (shape .n) (full K)) starts = rw c (ap (take ((shape .e + 1) * shape .n)) q ∙ paste-part w 0 starts ((shape .e + 1) * shape .n) (omega arith) hs) in
+      greatest-of shape (full K) w₂ 0 g (laid .counts-are) top b₂
+      (subst (RowsAscend (full K)) (sym (set-same (shape .n) (full K) w₂ starts b₂ e)) (starts-ascend K shape starts laid b₂))
+
+  module _ (g : List ℕ) (t : Bool) (top : GreatestAt shape w₂ 0 (take (shape .n) g))
       (test : t ≡ insideAny (take (shape .n) g) (barsAt (shape .n) 16 (drop 0 b₂))) where
     pub bar-dropped : t ≡ true → Impossible shape k 0 starts w w₂ b b₂
     unfolding standing keep
     bar-dropped y = record {
-      stands = λ K laid.
-          sym (barred-is K laid
-          ∙ ap (λ (x : Bool). cond x [] (structureAt (shape .n) (full K) w₂ b₂ ∷ [])) (ap (λ (x : Cut). insideAny x (barsAt (shape .n) 16 b₂)) (sym (top (full K) b₂ (laid .counted))) ∙ sym test ∙ y));
+      stands = λ K laid asc.
+          sym (barred-is K laid asc
+          ∙ ap (λ (x : Bool). cond x [] (structureAt (shape .n) (full K) w₂ b₂ ∷ [])) (ap (λ (x : Cut). insideAny x (barsAt (shape .n) 16 b₂)) (sym (all-top K laid (take (shape .n) g) top)) ∙ sym test ∙ y));
       least = λ i h. absurd (not-suc-le-zero h);
       few = omega arith;
     }
@@ -306,9 +332,9 @@ module _ (shape : Shape) (k : ℕ) (starts w w₂ b b₁ b₂ : List ℕ) (z : 0
     pub bar-kept : t ≡ false → Impossible shape k 1 starts w w₂ b b₂
     unfolding standing keep
     bar-kept y = record {
-      stands = λ K laid.
-          sym (barred-is K laid
-          ∙ ap (λ (x : Bool). cond x [] (structureAt (shape .n) (full K) w₂ b₂ ∷ [])) (ap (λ (x : Cut). insideAny x (barsAt (shape .n) 16 b₂)) (sym (top (full K) b₂ (laid .counted))) ∙ sym test ∙ y));
+      stands = λ K laid asc.
+          sym (barred-is K laid asc
+          ∙ ap (λ (x : Bool). cond x [] (structureAt (shape .n) (full K) w₂ b₂ ∷ [])) (ap (λ (x : Cut). insideAny x (barsAt (shape .n) 16 b₂)) (sym (all-top K laid (take (shape .n) g) top)) ∙ sym test ∙ y));
       least = λ i h f. first-all (ap (λ (x : ℕ). getD w₂ x 0) (sym (ap (λ (x : ℕ). x * ((shape .e + 1) * shape .n)) (let o : i ≡ 0 = omega arith in o) ∙ zero-mul ((shape .e + 1) * shape .n))) ∙ f);
       few = omega arith;
     }

@@ -1,15 +1,12 @@
 // The steps for possibly and not possibly.
 use structure::Shape;
 ghost use mathlib.Core.Path.{_≡_};
-ghost use mathlib.Core.List.{List};
 ghost use Prim.Native.Nat.{ℕ, _+_, _*_, _≤_, _<_};
 ghost use lib.ListN.{length, getD, take, drop, replicate};
 ghost use lib.Seq.{paste};
 ghost use Rattle.model.specs.Limits.{limits};
-ghost use Rattle.model.specs.Lists.{total};
-ghost use Rattle.model.specs.Structure.{greatest};
-ghost use Rattle.structure.specs.Layout.{structureAt};
 ghost use Rattle.structure.specs.Shaped.{Shaped};
+ghost use Rattle.structure.specs.Greatest.{GreatestAt};
 ghost use Rattle.steps.specs.Rows.{rowAt, belowRow};
 ghost use Rattle.modal.specs.Post.{Present, Lowered, Possible, Impossible};
 
@@ -48,7 +45,7 @@ fn lower_one(ws: &mut [u8], bs: &mut [u8], x: Shape, starts: &[u8])
     let n = x.n;
     let e = x.e;
     let mut g = [0u8; 8];
-    structure::greatest(ws, 0, n, e, &mut g);
+    structure::greatest(ws, 0, x, &mut g);
     below_rows(ws, n, e, &g, starts);
     bs[0] = cells::NONE;
 }
@@ -73,17 +70,19 @@ pub fn lower(ws: &mut [u8], bs: &mut [u8], count: usize, x: Shape, starts: &[u8]
 }
 
 // The greatest cut of structure i goes to bar i of the first slot.
-fn bar_each(ws: &[u8], bs: &mut [u8], count: usize, n: usize, e: usize)
-    requires { ⌜ (0 < n) × (n ≤ 8) × (e ≤ limits .events) × (count ≤ 16) × (count * ((e + 1) * n) ≤ length (now ws)) × (16 * n ≤ length (now bs)) ⌝ }
-    ensures { λ _. ⌜ ((i : ℕ) → i < count → (counts b : List ℕ) → total counts ≡ e
-        → rowAt n i (now (bs .exit)) ≡ greatest (structureAt n counts (drop (i * ((e + 1) * n)) (now (ws .entry))) b))
-        × (drop (count * n) (now (bs .exit)) ≡ drop (count * n) (now (bs .entry))) ⌝ }
+fn bar_each(ws: &[u8], bs: &mut [u8], count: usize, x: Shape)
+    requires { ⌜ Shaped x ⌝ }
+    requires { ⌜ (count ≤ 16) × (count * ((x .e + 1) * x .n) ≤ length (now ws)) × (16 * x .n ≤ length (now bs)) ⌝ }
+    ensures { λ _. ⌜ ((i : ℕ) → i < count → GreatestAt x (now (ws .entry)) (i * ((x .e + 1) * x .n)) (rowAt (x .n) i (now (bs .exit))))
+        × (drop (count * x .n) (now (bs .exit)) ≡ drop (count * x .n) (now (bs .entry))) ⌝ }
 {
+    let n = x.n;
+    let e = x.e;
     let size = (e + 1) * n;
     let mut i = 0;
     while i < count {
         let mut g = [0u8; 8];
-        structure::greatest(ws, i * size, n, e, &mut g);
+        structure::greatest(ws, i * size, x, &mut g);
         cells::copy(bs, i * n, &g, 0, n);
         i += 1;
     }
@@ -98,11 +97,11 @@ pub fn bar(ws: &mut [u8], bs: &mut [u8], count: usize, x: Shape, starts: &[u8]) 
 {
     let n = x.n;
     let e = x.e;
-    bar_each(ws, bs, count, n, e);
+    bar_each(ws, bs, count, x);
     steps::end_bars(bs, 0, count, n);
     cells::copy(ws, 0, starts, 0, (e + 1) * n);
     let mut g = [0u8; 8];
-    structure::greatest(ws, 0, n, e, &mut g);
+    structure::greatest(ws, 0, x, &mut g);
     if structure::barred(&g, bs, 0, n) {
         0
     } else {

@@ -110,7 +110,7 @@ pub fn pair_one(
             rounds: rounds,
         };
     }
-    if bars::barred_out(ws, at, bs, o * slot, n, e) {
+    if bars::barred_out(ws, at, bs, o * slot, x) {
         return Pairs {
             count: 0,
             rounds: rounds,

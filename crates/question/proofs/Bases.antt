@@ -70,7 +70,9 @@ module _ {K : Computation} {f : Formula} {q : List ℕ} {shape : Shape} {starts 
     pub worked : Stands shape count ws bs → Worked K f shape count sum ws bs
     worked s = record {
       stands = s;
+      valid = g .laid .0 .valid;
       stationed = g .laid .0 .stationed;
+      counts-are = g .laid .0 .counts-are;
       is-basis = ap (λ (l : List ℕ). standing (shape .n) l count ws bs) (g .laid .0 .counts-are) ∙ is-basis;
       summed = w .counted K f [] (g .laid) spelt;
       few = count-few;

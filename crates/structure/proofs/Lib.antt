@@ -2,7 +2,7 @@
 pub mod Rows
 pub mod Places
 pub mod Raising
-pub mod Joining
+pub mod LastRows
 pub mod Bars
 pub mod Listed
 pub mod Standing

@@ -8,10 +8,11 @@ use native.Mathlib.Omega.{arith}
 use mathlib.Core.List.{List, [], _∷_, _++_}
 use mathlib.Core.Option.{Option, none}
 use lib.ListN.{length, getD, take, drop, List·getD-eq-default}
-use lib.Seq.{drop-drop}
+use lib.Seq.{drop-drop, getD-take}
 use Rattle.model.specs.Lists.{sum, total}
 use Rattle.model.specs.Structure.{row}
-use Rattle.structure.specs.Layout.{decoded, rowsAt, stationsAt, structureAt, cells}
+use Rattle.lattice.proofs.Sums.{total-take}
+use Rattle.structure.specs.Layout.{decoded, rowsAt, stationsAt, structureAt, placed, cells}
 
 pub rows-at : (n m : ℕ) (w : List ℕ) (k : ℕ) → k < m → getD (rowsAt n m w) k none ≡ decoded (take n (drop (k * n) w))
 unfolding rowsAt
@@ -43,7 +44,7 @@ station-at n (m ∷ counts) w (suc j) h =
     station-at n counts (drop (m * n) w) j (le-of-suc-le-suc h)
     ∙ ap (rowsAt n (getD counts j 0)) (drop-drop (total (take j counts) * n) (m * n) w ∙ rw (add-mul m (total (take j counts)) n))
 
-length-stations : (n : ℕ) (counts w : List ℕ) → length (stationsAt n counts w) ≡ length counts
+pub length-stations : (n : ℕ) (counts w : List ℕ) → length (stationsAt n counts w) ≡ length counts
 unfolding stationsAt
 length-stations n [] w = refl
 length-stations n (m ∷ counts) w = ap suc (length-stations n counts (drop (m * n) w))
@@ -80,6 +81,23 @@ module _ (n : ℕ) (counts w bs : List ℕ) (j : ℕ) where
           let d = drop (total (take j counts) * n) (drop n w) in
           ap (λ (r : List (Option (List ℕ))). getD r k none) (station-at n counts (drop n w) j h)
           ∙ List·getD-eq-default (rowsAt n (getD counts j 0) d) none (rw length-rows (le-of-suc-le-suc l))
+
+-- The row of event k of station j in a structure at a place; before is how many events the stations before j have.
+module _ (n : ℕ) (counts w : List ℕ) (at j before : ℕ) (b : before ≡ total (take j (take n counts))) (h : j < n) (k : ℕ) (l : k ≤ getD counts j 0) where
+  count-at : getD (take n counts) j 0 ≡ getD counts j 0
+  count-at = getD-take n counts j 0 h
+
+  pub placed-row : (k ≡ 0 → ⊥) → (bs : List ℕ) → row (placed n counts w at bs) j k ≡ decoded (take n (drop (at + (before + k) * n) w))
+  placed-row f bs =
+      row-place n (take n counts) (drop at w) bs j k f (rw count-at l)
+      ∙ ap (λ (x : List ℕ). decoded (take n x)) (ap (λ (t : ℕ). drop ((t + k) * n) (drop at w)) (sym b) ∙ drop-drop ((before + k) * n) at w)
+
+  -- It has m cells from its first on.
+  pub placed-room : (m : ℕ) → at + total (take n counts) * n + m ≤ length w → at + (before + k) * n + m ≤ length w
+  placed-room m room =
+      let t : total (take j (take n counts)) + getD (take n counts) j 0 ≤ total (take n counts) = total-take (take n counts) j in
+      let q : before + k ≤ total (take n counts) = omega (arith, b, count-at) in
+      omega (arith, mul-le-mul-right n q)
 
 -- SIZES
 

@@ -1,23 +1,21 @@
 -- Laws of raising: what one station adds, the loop over the stations, and that bars play no part.
 use mathlib.Core.Path.{_≡_, refl, sym, ap, ap₂, _∙_}
 use Prim.Native.Nat.{ℕ, zero, suc, _+_, _*_, _≤_, _<_}
-use native.Mathlib.Nat.{mul-le-mul-right}
 use native.Mathlib.Numerals.{add-one}
 use native.Mathlib.Omega.{arith}
 use mathlib.Core.List.{List}
 use mathlib.Core.Option.{Option, none, some}
 use lib.ListN.{length, getD, take, drop, replicate, length-drop}
-use lib.Seq.{drop-drop, length-take-le, getD-take}
+use lib.Seq.{length-take-le, getD-take}
 use Rattle.model.specs.Lists.{total}
 use Rattle.model.specs.Cut.{Cut, join}
 use Rattle.model.specs.Structure.{Structure, row, joined, raiseBy, raise}
-use Rattle.lattice.proofs.Sums.{total-take}
 use Rattle.structure.specs.Layout.{decoded, structureAt, placed, cells}
 use Rattle.structure.specs.declared.Shape.{Shape}
 use Rattle.structure.specs.Shaped.{Shaped}
 use Rattle.cells.proofs.Cuts.{join-self, join-swap, join-zeros}
 use Rattle.structure.proofs.Rows.{is-none, is-some, decoded-rows, first-at}
-use Rattle.structure.proofs.Places.{row-place, row-past, next-fits, cells-are}
+use Rattle.structure.proofs.Places.{row-past, placed-row, placed-room, next-fits, cells-are}
 
 joined-none : (x : Option Cut) → joined x none ≡ none
 unfolding joined
@@ -68,9 +66,6 @@ raise-bars n counts w bs bt c = raise-by-bars n counts w bs bt c (length c)
 -- What station j adds to acc, of which a cut has `count` events.
 module _ (n : ℕ) (counts offs w : List ℕ) (at j count : ℕ) (acc : List ℕ) (z : 0 < n) (few : n ≤ 8) (o : getD offs j 0 ≡ total (take j (take n counts)))
     (h : j < n) (a8 : length acc ≡ 8) where
-  j-count : getD (take n counts) j 0 ≡ getD counts j 0
-  j-count = getD-take n counts j 0 h
-
   pub station-zero : count ≡ 0 → (bs : List ℕ) (x : Option Cut) → joined x (some (take n (drop at w))) ≡ x → x ≡ joined x (row (placed n counts w at bs) j count)
   unfolding row
   station-zero e bs x f = rw e (sym f)
@@ -78,21 +73,15 @@ module _ (n : ℕ) (counts offs w : List ℕ) (at j count : ℕ) (acc : List ℕ
   pub station-none : getD counts j 0 < count → (out : List ℕ) → out ≡ replicate 8 255 → (bs : List ℕ) (x : Option Cut) → decoded (take n out) ≡ joined x (row (placed n counts w at bs) j count)
   station-none l out e bs x =
       ap (λ (c : List ℕ). decoded (take n c)) e ∙ is-none n (replicate 8 255) z refl
-      ∙ sym (ap (joined x) (row-past n (take n counts) (drop at w) bs j count (rw j-count l)) ∙ joined-none x)
+      ∙ sym (ap (joined x) (row-past n (take n counts) (drop at w) bs j count (rw (getD-take n counts j 0 h) l)) ∙ joined-none x)
 
   -- Each row has m cells from its first on.
   module _ (k : ℕ) (e : k ≡ getD offs j 0 + count) (m : ℕ) (room : at + total (take n counts) * n + m ≤ length w) (l : count ≤ getD counts j 0) where
     pub station-room : at + k * n + m ≤ length w
-    station-room =
-        let t : total (take j (take n counts)) + getD (take n counts) j 0 ≤ total (take n counts) = total-take (take n counts) j in
-        let q : k ≤ total (take n counts) = omega (arith, o, j-count) in
-        omega (arith, mul-le-mul-right n q)
+    station-room = rw e (placed-room n counts w at j (getD offs j 0) o h count l m room)
 
     row-is : (count ≡ 0 → ⊥) → (bs : List ℕ) → row (placed n counts w at bs) j count ≡ decoded (take n (drop (at + k * n) w))
-    row-is f bs =
-        let q : total (take j (take n counts)) + count ≡ k = omega (arith, o) in
-        row-place n (take n counts) (drop at w) bs j count f (rw j-count l)
-        ∙ ap (λ (x : List ℕ). decoded (take n x)) (ap (λ (t : ℕ). drop (t * n) (drop at w)) q ∙ drop-drop (k * n) at w)
+    row-is f bs = rw e (placed-row n counts w at j (getD offs j 0) o h count l f bs)
 
     pub station-joins : n ≤ m → (count ≡ 0 → ⊥) → getD acc 0 0 < 256 → getD w (at + k * n) 0 < 256 → (out : List ℕ)
         → take n out ≡ join (take n acc) (take n (drop (at + k * n) w)) → (bs : List ℕ)

@@ -20,6 +20,7 @@ use Rattle.structure.specs.Layout.{standing, barCells}
 use Rattle.lattice.proofs.Signed as signed
 use Rattle.lattice.specs.Signed.{normal, two, joinedForm, liftedForm}
 use Rattle.lattice.proofs.Tests.{and-true}
+use Rattle.lattice.proofs.Theorem.{basis-ascend}
 use Rattle.lattice.proofs.Size.{basis-width, narrow-to, width-pos}
 use Rattle.lattice.proofs.Held.{width-held}
 use Rattle.steps.specs.Rows.{rowAt}
@@ -43,14 +44,14 @@ use Rattle.token.proofs.Normals as normals
 module _ (shape : Shape) (k : ℕ) (sets : Sets) (starts w w₂ b b₂ : List ℕ) (t : Bool) (u : sets .stations ≡ replicate 16 0) where
   pub lifted-wide : t ≡ true → sets .count ≡ k → Possible shape k starts w w₂ b b₂ → Lifted t shape k starts w w₂ b b₂ sets
   lifted-wide f g d = rw f (record {
-    stands = λ K h. ap (λ (x : ℕ). standing (shape .n) (full K) x w₂ b₂) g ∙ d .stands K h;
+    stands = λ K h a. ap (λ (x : ℕ). standing (shape .n) (full K) x w₂ b₂) g ∙ d .stands K h a;
     least = subst (λ (x : ℕ). Present ((shape .e + 1) * shape .n) x w₂) (sym g) (d .least);
     unmarked = u;
   })
 
   pub lifted-barred : (c : ℕ) → t ≡ false → sets .count ≡ c → Impossible shape k c starts w w₂ b b₂ → Lifted t shape k starts w w₂ b b₂ sets
   lifted-barred c f g d = rw f (record {
-    stands = λ K h. ap (λ (x : ℕ). standing (shape .n) (full K) x w₂ b₂) g ∙ d .stands K h;
+    stands = λ K h a. ap (λ (x : ℕ). standing (shape .n) (full K) x w₂ b₂) g ∙ d .stands K h a;
     least = subst (λ (x : ℕ). Present ((shape .e + 1) * shape .n) x w₂) (sym g) (d .least);
     unmarked = u;
   })
@@ -264,7 +265,8 @@ module _ (s : Bool) (shape : Shape) (q starts values : List ℕ) where
           omega (arith, m .passed (h .0) rest (d ∙ h .2));
       stands = λ K f rest laid r.
           let h = tokens.behind-modal q f rest r t k in
-          l .stands K (laid .0) ∙ ap (liftedBasis (Bool·beq t s) K) (m .stands K (h .0) rest laid (d ∙ h .2)) ∙ sym (normals.basis-lifted (Bool·beq t s) K (normal t (h .0)))
+          let e = m .stands K (h .0) rest laid (d ∙ h .2) in
+          l .stands K (laid .0) (basis-ascend K (laid .0 .valid) (normal t (h .0)) _ e) ∙ ap (liftedBasis (Bool·beq t s) K) e ∙ sym (normals.basis-lifted (Bool·beq t s) K (normal t (h .0)))
           ∙ ap (basis K) (sym (ap (normal s) (h .1) ∙ signed.normal-modal s t (h .0)));
       counted = λ K f rest laid r.
           let h = tokens.behind-modal q f rest r t k in

@@ -20,6 +20,8 @@ use Rattle.modal.specs.Post.{Present}
 use Rattle.pair.specs.Post.{standingFrom}
 use Rattle.pairs.specs.Post.{Bases}
 use Rattle.lattice.specs.Signed.{normal}
+use Rattle.lattice.specs.Ascending.{RowsAscend}
+use Rattle.lattice.proofs.Lists.{All}
 use Rattle.token.specs.Signed.{joinedBasis, joinedRounds, liftedBasis}
 
 -- The most rounds of a question.
@@ -70,8 +72,9 @@ pub record Combined (pair : Bool) (x : Shape) (l r : Sets) (u v : ℕ) (starts w
   pub joined : Joined pair x l r starts w w₂ b b₂ sets joined-rounds
   pub summed : sum ≡ u + v + joined-rounds
 
--- The k structures at the front of w and b became those at the front of w₂ and b₂, of which none is marked.
+-- The k structures at the front of w and b, if their rows ascend, became those at the front of w₂ and b₂, of which none is marked.
 pub record Lifted (wide : Bool) (x : Shape) (k : ℕ) (starts w w₂ b b₂ : List ℕ) (sets : Sets) : Type 0 where
-  pub stands : (K : Computation) → Laid K x starts → standing (x .n) (full K) (sets .count) w₂ b₂ ≡ liftedBasis wide K (standing (x .n) (full K) k w b)
+  pub stands : (K : Computation) → Laid K x starts → All (RowsAscend (full K)) (standing (x .n) (full K) k w b)
+      → standing (x .n) (full K) (sets .count) w₂ b₂ ≡ liftedBasis wide K (standing (x .n) (full K) k w b)
   pub least : Present ((x .e + 1) * x .n) (sets .count) w₂
   pub unmarked : sets .stations ≡ replicate 16 0

@@ -15,7 +15,7 @@ shared-slice-read-if1 c = search needs
 returns : tie.Need-returns
 returns c =
     let a = c .before .before .before .before .args in
-    λ counts d t. sym (no-bars (a .n) (drop (a .bar) (a .bs .now)) _ (first-at (a .bs .now) (a .bar) ∙ c .if1 .taken))
+    λ d asc. sym (no-bars (a .x .n) (drop (a .bar) (a .bs .now)) _ (first-at (a .bs .now) (a .bar) ∙ c .if1 .taken))
 
 slice-aggregate-greatest : tie.Need-slice-aggregate-greatest
 slice-aggregate-greatest c = search needs
@@ -32,7 +32,7 @@ barred-requires c κs = search needs
 returns-2 : tie.Need-returns-2
 returns-2 c =
     let a = c .before .before .before .before .before .before .before .before .before .args in
-    λ counts d t. c .barred .ensures ∙ ap (λ (g : Cut). insideAny g (barsAt (a .n) 16 (drop (a .bar) (a .bs .now)))) (c .before .before .before .greatest .ensures counts d t)
+    λ d asc. c .barred .ensures ∙ ap (λ (g : Cut). insideAny g (barsAt (a .x .n) 16 (drop (a .bar) (a .bs .now)))) (c .before .before .before .greatest .ensures d asc)
 
 pub barred-out-spec : {M : Type 1} → statement M
 barred-out-spec =

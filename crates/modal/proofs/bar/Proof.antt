@@ -41,7 +41,7 @@ returns : tie.Need-returns
 returns c =
     let a = c .before .before .before .before .before .before .before .before .before .before .before .before .before .before .before .before .before .before .before .before .before .before .before .before .args in
     let p = c .before .before .before .before .before .before .before .before .before .before .before .before .before .before .before .before .before .before .before .before .before .before .before .before .pre in
-    laws.bar-dropped (a .x) (a .count) (a .starts .now) (a .ws .now) (c .before .before .before .before .before .before .before .before .before .before .copy .last .0) (a .bs .now) (c .before .before .before .before .before .before .before .before .before .before .before .before .before .before .before .before .before .before .bar-each .last .1 .0) (c .before .before .before .before .before .before .before .before .before .before .before .before .before .before .end-bars .last .0) (p .0 .some-station) (p .1 .0 .0) (p .1 .0 .4) (p .1 .0 .5) (p .1 .1) (c .before .before .before .before .before .before .before .before .before .before .before .before .before .before .before .before .before .before .bar-each .ensures .0) (c .before .before .before .before .before .before .before .before .before .before .before .before .before .before .end-bars .ensures) (c .before .before .before .before .before .before .before .before .before .before .copy .ensures) (c .before .before .before .before .before .greatest .last .1 .1 .1 .1 .0) (c .before .barred .result) (c .before .before .before .before .before .greatest .ensures) (c .before .barred .ensures) (c .if1 .taken)
+    laws.bar-dropped (a .x) (a .count) (a .starts .now) (a .ws .now) (c .before .before .before .before .before .before .before .before .before .before .copy .last .0) (a .bs .now) (c .before .before .before .before .before .before .before .before .before .before .before .before .before .before .before .before .before .before .bar-each .last .1 .0) (c .before .before .before .before .before .before .before .before .before .before .before .before .before .before .end-bars .last .0) (p .0 .some-station) (p .1 .0 .0) (p .1 .0 .4) (p .1 .0 .5) (p .1 .1) (c .before .before .before .before .before .before .before .before .before .before .before .before .before .before .before .before .before .before .bar-each .ensures .0) (c .before .before .before .before .before .before .before .before .before .before .before .before .before .before .end-bars .ensures) (c .before .before .before .before .before .before .before .before .before .before .copy .ensures) (c .before .before .before .before .before .greatest .last .1 .1 .1 .0) (c .before .barred .result) (c .before .before .before .before .before .greatest .ensures) (c .before .barred .ensures) (c .if1 .taken)
 
 same-length-3 : tie.Need-same-length-3
 same-length-3 c = search needs
@@ -53,7 +53,7 @@ returns-2 : tie.Need-returns-2
 returns-2 c =
     let a = c .before .before .before .before .before .before .before .before .before .before .before .before .before .before .before .before .before .before .before .before .before .before .before .before .args in
     let p = c .before .before .before .before .before .before .before .before .before .before .before .before .before .before .before .before .before .before .before .before .before .before .before .before .pre in
-    laws.bar-kept (a .x) (a .count) (a .starts .now) (a .ws .now) (c .before .before .before .before .before .before .before .before .before .before .copy .last .0) (a .bs .now) (c .before .before .before .before .before .before .before .before .before .before .before .before .before .before .before .before .before .before .bar-each .last .1 .0) (c .before .before .before .before .before .before .before .before .before .before .before .before .before .before .end-bars .last .0) (p .0 .some-station) (p .1 .0 .0) (p .1 .0 .4) (p .1 .0 .5) (p .1 .1) (c .before .before .before .before .before .before .before .before .before .before .before .before .before .before .before .before .before .before .bar-each .ensures .0) (c .before .before .before .before .before .before .before .before .before .before .before .before .before .before .end-bars .ensures) (c .before .before .before .before .before .before .before .before .before .before .copy .ensures) (c .before .before .before .before .before .greatest .last .1 .1 .1 .1 .0) (c .before .barred .result) (c .before .before .before .before .before .greatest .ensures) (c .before .barred .ensures) (c .if1 .left)
+    laws.bar-kept (a .x) (a .count) (a .starts .now) (a .ws .now) (c .before .before .before .before .before .before .before .before .before .before .copy .last .0) (a .bs .now) (c .before .before .before .before .before .before .before .before .before .before .before .before .before .before .before .before .before .before .bar-each .last .1 .0) (c .before .before .before .before .before .before .before .before .before .before .before .before .before .before .end-bars .last .0) (p .0 .some-station) (p .1 .0 .0) (p .1 .0 .4) (p .1 .0 .5) (p .1 .1) (c .before .before .before .before .before .before .before .before .before .before .before .before .before .before .before .before .before .before .bar-each .ensures .0) (c .before .before .before .before .before .before .before .before .before .before .before .before .before .before .end-bars .ensures) (c .before .before .before .before .before .before .before .before .before .before .copy .ensures) (c .before .before .before .before .before .greatest .last .1 .1 .1 .0) (c .before .barred .result) (c .before .before .before .before .before .greatest .ensures) (c .before .barred .ensures) (c .if1 .left)
 
 pub bar-spec : {M : Type 1} → statement M
 bar-spec =

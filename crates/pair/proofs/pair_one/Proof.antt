@@ -2,7 +2,6 @@
 use Prim.Native.Nat.{_*_}
 use native.Mathlib.Omega.{arith}
 use Rattle.structure.proofs.Places.{one-more, next-fits}
-use Rattle.pair.specs.Post.{OnePair}
 use Rattle.pair.proofs.One as one
 use borrow.Author.Needs.{needs}
 use Rattle.pair.proofs.pair_one.Statement.{statement}
@@ -63,8 +62,7 @@ returns c =
       (
         omega arith,
         x .ensures .0 .small,
-        one.one-empty (a .x .n) (a .x .e) (s .pre .0 .some-station) (OnePair (a .x) (a .p) (a .left .now) (a .first .now) (a .ws .now) (a .bs .now)) (λ K h. h .begun .counted) (λ K h. h .begun .stationed)
-            (a .p .left) (a .p .right) (a .p .to) (a .ws .now) (x .last .0) (a .bs .now) (b .last .0) (x .result) (x .ensures .0 .is (a .bs .now)) (x .ensures .0 .front) (b .ensures) (c .if1 .taken),
+        one.one-empty (a .x) (a .p) (a .left .now) (a .first .now) (a .ws .now) (x .last .0) (a .bs .now) (b .last .0) (x .result) (s .pre .0 .some-station) (x .ensures .0) (b .ensures) (c .if1 .taken),
       ),
       x .ensures .1,
     )
@@ -73,7 +71,9 @@ mul-barred-out : tie.Need-mul-barred-out
 mul-barred-out c = search needs
 
 barred-out-requires : tie.Need-barred-out-requires
-barred-out-requires c κs = search needs
+barred-out-requires c κs =
+    let s = c .before .before .before .before .before .before .before .before .before .before .before .before .before .before .before in
+    (s .pre .0, search needs)
 
 same-length-3 : tie.Need-same-length-3
 same-length-3 c = c .before .before .before .before .before .before .before .before .before .before .before .before .intersect-at .kept .0
@@ -90,8 +90,7 @@ returns-2 c =
       (
         omega arith,
         x .ensures .0 .small,
-        one.one-dropped (a .x .n) (a .x .e) (s .pre .0 .some-station) (OnePair (a .x) (a .p) (a .left .now) (a .first .now) (a .ws .now) (a .bs .now)) (λ K h. h .begun .counted) (λ K h. h .begun .stationed)
-            (a .p .left) (a .p .right) (a .p .to) (a .ws .now) (x .last .0) (a .bs .now) (b .last .0) (x .result) (x .ensures .0 .is (a .bs .now)) (x .ensures .0 .front) (b .ensures) (c .before .before .before .before .if1 .left) (c .before .barred-out .result) (c .before .barred-out .ensures) (c .if2 .taken),
+        one.one-dropped (a .x) (a .p) (a .left .now) (a .first .now) (a .ws .now) (x .last .0) (a .bs .now) (b .last .0) (x .result) (s .pre .0 .some-station) (x .ensures .0) (b .ensures) (c .before .before .before .before .if1 .left) (c .before .barred-out .result) (c .before .barred-out .ensures) (c .if2 .taken),
       ),
       x .ensures .1,
     )
@@ -111,8 +110,7 @@ returns-3 c =
       (
         omega arith,
         x .ensures .0 .small,
-        one.one-kept (a .x .n) (a .x .e) (s .pre .0 .some-station) (OnePair (a .x) (a .p) (a .left .now) (a .first .now) (a .ws .now) (a .bs .now)) (λ K h. h .begun .counted) (λ K h. h .begun .stationed)
-            (a .p .left) (a .p .right) (a .p .to) (a .ws .now) (x .last .0) (a .bs .now) (b .last .0) (x .result) (x .ensures .0 .is (a .bs .now)) (x .ensures .0 .front) (b .ensures) (c .before .before .before .before .if1 .left) (c .before .barred-out .result) (c .before .barred-out .ensures) (c .if2 .left),
+        one.one-kept (a .x) (a .p) (a .left .now) (a .first .now) (a .ws .now) (x .last .0) (a .bs .now) (b .last .0) (x .result) (s .pre .0 .some-station) (x .ensures .0) (b .ensures) (c .before .before .before .before .if1 .left) (c .before .barred-out .result) (c .before .barred-out .ensures) (c .if2 .left),
       ),
       x .ensures .1,
     )

@@ -1,25 +1,23 @@
--- `structure::greatest` meets its contract: what the rows from k on make of the accumulator is the greatest cut.
-use mathlib.Core.Path.{_≡_, sym, ap, _∙_}
-use Prim.Native.Nat.{_+_, _*_, _≤_, _-_}
+-- `structure::greatest` meets its contract: after j stations the accumulator has their rows in it.
+use mathlib.Core.List.{List}
+use mathlib.Core.Path.{_≡_, _∙_}
+use Prim.Native.Nat.{ℕ, _-_, _≤_}
 use native.Mathlib.Omega.{arith}
-use lib.ListN.{length, take, drop, length-drop}
-use Rattle.cells.proofs.Cuts.{join-zeros}
-use Rattle.structure.proofs.Joining as joining
+use lib.ListN.{length, take, drop}
+use Rattle.lattice.specs.Ascending.{RowsAscend}
+use Rattle.lattice.proofs.Ascending.{Gathered}
+use Rattle.structure.specs.Layout.{placed}
+use Rattle.structure.proofs.Raising.{shape-room}
+use Rattle.structure.proofs.LastRows as last
 use borrow.Author.Needs.{needs}
 use Rattle.structure.proofs.greatest.Statement.{statement}
 use Rattle.structure.proofs.greatest.Tie as tie
 
 abbrev Inv-loop : tie.InvT-loop
-Inv-loop ws at n e out acc₀ k₀ acc k = (k ≤ e) × (length acc ≡ 8) × (joining.rest n e ws at k (take n acc) ≡ joining.rest n e ws at 0 (take n (drop at ws)))
+Inv-loop ws at x out n acc₀ j₀ acc j = (j ≤ n) × (length acc ≡ 8) × ((bs : List ℕ) → RowsAscend (take n (x .counts)) (placed n (x .counts) ws at bs) → Gathered (placed n (x .counts) ws at bs) j (take n acc))
 
 abbrev μ-loop : tie.MeasureT-loop
-μ-loop ws at n e out acc₀ k₀ acc k = e - k
-
-room : (c : tie.In-loop Inv-loop μ-loop) → c .before .before .before .before .before .before .before .args .at + (c .before .loop .k + 1) * c .before .before .before .before .before .before .before .args .n + c .before .before .before .before .before .before .before .args .n ≤ length (c .before .before .before .before .before .before .before .args .ws .now)
-room c =
-    let s = c .before .before .before .before .before .before .before in
-    let a = s .args in
-    joining.event-room (a .n) (a .e) (a .ws .now) (a .at) (c .before .loop .k) (c .loop-test .taken) (take (a .n) (a .ws .now)) (length (a .ws .now)) (s .pre .3)
+μ-loop ws at x out n acc₀ j₀ acc j = n - j
 
 slice-aggregate-join-at : tie.Need-slice-aggregate-join-at Inv-loop μ-loop
 slice-aggregate-join-at c = search needs
@@ -28,71 +26,42 @@ join-at-requires : tie.Need-join-at-requires Inv-loop μ-loop
 join-at-requires c κs =
     let s = c .before .before .before in
     let a = s .args in
-    (search needs, s .pre .2, joining.least-room (a .n) (a .e) (a .ws .now) (a .at) (length (a .ws .now)) (s .pre .3))
+    (search needs, s .pre .0 .few-stations, omega (arith, shape-room (a .x) (s .pre .0) (a .at) (length (a .ws .now)) (s .pre .1 .1)))
 
 loop-holds : tie.Need-loop-holds Inv-loop μ-loop
 loop-holds c =
     let s = c .before .before .before .before .before in
     let a = s .args in
-    let r : a .at + a .n ≤ length (a .ws .now) = joining.least-room (a .n) (a .e) (a .ws .now) (a .at) (length (a .ws .now)) (s .pre .3) in
-    let l : a .n ≤ length (drop (a .at) (a .ws .now)) = rw length-drop (omega arith) in (
-      omega arith,
-      c .before .join-at .kept .0,
-      ap (joining.rest (a .n) (a .e) (a .ws .now) (a .at) 0) (c .before .join-at .ensures ∙ join-zeros (a .n) 8 (drop (a .at) (a .ws .now)) (s .pre .2) l),
-    )
+    (omega arith, c .before .join-at .kept .0, λ bs _. last.greatest-start (a .x) (s .pre .0) (a .ws .now) (a .at) (s .pre .1 .1) bs (c .before .join-at .last .0) (c .before .join-at .ensures))
 
-add-k : tie.Need-add-k Inv-loop μ-loop
-add-k c = search needs
-
-mul-if1 : tie.Need-mul-if1 Inv-loop μ-loop
-mul-if1 c = omega (arith, room c)
-
-add-if1 : tie.Need-add-if1 Inv-loop μ-loop
-add-if1 c = omega (arith, room c)
-
-shared-slice-read-if1 : tie.Need-shared-slice-read-if1 Inv-loop μ-loop
-shared-slice-read-if1 c = omega (arith, room (c .before))
+last-row-requires : tie.Need-last-row-requires Inv-loop μ-loop
+last-row-requires c κs =
+    let s = c .before .before .before .before .before .before .before in
+    (s .pre .0, (omega arith, s .pre .1 .1))
 
 slice-aggregate-join-at-2 : tie.Need-slice-aggregate-join-at-2 Inv-loop μ-loop
 slice-aggregate-join-at-2 c = search needs
 
-mul-join-at : tie.Need-mul-join-at Inv-loop μ-loop
-mul-join-at c = omega (arith, room (c .before .before .before))
-
-add-join-at : tie.Need-add-join-at Inv-loop μ-loop
-add-join-at c = omega (arith, room (c .before .before .before))
-
 join-at-requires-2 : tie.Need-join-at-requires-2 Inv-loop μ-loop
 join-at-requires-2 c κs =
-    let s = c .before .before .before .before .before .before .before .before .before .before in
-    (c .before .before .before .before .loop .inv .1, s .pre .2, room (c .before .before .before))
+    let s = c .before .before .before .before .before .before .before .before .before in
+    (c .before .before .before .loop .inv .1, s .pre .0 .few-stations, c .before .last-row .ensures .0)
+
+add-j : tie.Need-add-j Inv-loop μ-loop
+add-j c = search needs
 
 loop-less : tie.Need-loop-less Inv-loop μ-loop
 loop-less c = search needs
 
 loop-again : tie.Need-loop-again Inv-loop μ-loop
 loop-again c =
-    let s = c .before .before .before .before .before .before .before .before .before .before .before .before in
+    let s = c .before .before .before .before .before .before .before .before .before .before .before in
     let a = s .args in
-    let l = c .before .before .before .before .before .before .loop in (
+    let l = c .before .before .before .before .before .loop in
+    let r = c .before .before .before .last-row in (
       omega arith,
       c .before .join-at2 .kept .0 ∙ l .inv .1,
-      ap (joining.rest (a .n) (a .e) (a .ws .now) (a .at) (l .k + 1)) (c .before .join-at2 .ensures)
-          ∙ sym (joining.joins-some (a .n) (a .e) (a .ws .now) (a .at) (l .k) (c .before .before .before .before .before .loop-test .taken) (take (a .n) (l .acc)) (s .pre .1) (c .before .before .before .if1 .taken))
-          ∙ l .inv .2,
-    )
-
-loop-less-2 : tie.Need-loop-less-2 Inv-loop μ-loop
-loop-less-2 c = search needs
-
-loop-again-2 : tie.Need-loop-again-2 Inv-loop μ-loop
-loop-again-2 c =
-    let s = c .before .before .before .before .before .before .before .before .before in
-    let a = s .args in
-    let l = c .before .before .before .loop in (
-      omega arith,
-      l .inv .1,
-      sym (joining.passes-none (a .n) (a .e) (a .ws .now) (a .at) (l .k) (c .before .before .loop-test .taken) (take (a .n) (l .acc)) (s .pre .1) (c .if1 .left)) ∙ l .inv .2,
+      λ bs asc. last.greatest-turn (a .x) (s .pre .0) (a .ws .now) (a .at) (s .pre .1 .1) bs asc (l .j) (c .before .before .before .before .loop-test .taken) (l .acc) (c .before .join-at2 .last .0) (take (a .x .n) (drop (r .result) (a .ws .now))) (r .ensures .1 bs) (c .before .join-at2 .ensures) (l .inv .2 bs asc),
     )
 
 slice-aggregate-copy-cut : tie.Need-slice-aggregate-copy-cut Inv-loop μ-loop
@@ -101,7 +70,7 @@ slice-aggregate-copy-cut c = search needs
 copy-cut-requires : tie.Need-copy-cut-requires Inv-loop μ-loop
 copy-cut-requires c κs =
     let s = c .before .before .before .before .before .before .before .before .before in
-    (s .pre .0, c .before .before .before .loop .inv .1)
+    (s .pre .1 .0, c .before .before .before .loop .inv .1)
 
 same-length : tie.Need-same-length Inv-loop μ-loop
 same-length c = search needs
@@ -111,10 +80,8 @@ returns c =
     let s = c .before .before .before .before .before .before .before .before .before .before .before .before in
     let a = s .args in
     let l = c .before .before .before .before .before .before .loop in
-    λ counts bs t.
-    ap (take (a .n)) (c .before .before .copy-cut .ensures)
-    ∙ sym (joining.greatest-end (a .n) (a .e) (a .ws .now) (a .at) (take (a .n) (l .acc)) (l .k) (omega arith))
-    ∙ l .inv .2 ∙ joining.greatest-is (a .n) (a .e) (a .ws .now) (a .at) counts bs t
+    let q : l .j ≡ a .x .n = omega arith in
+    λ bs asc. last.greatest-end (a .x) (s .pre .0) (a .ws .now) (a .at) (s .pre .1 .1) bs (l .j) q (l .acc) (c .before .before .copy-cut .last .0) (l .inv .1) (c .before .before .copy-cut .ensures) (l .inv .2 bs asc)
 
 pub greatest-spec : {M : Type 1} → statement M
 greatest-spec =
@@ -125,18 +92,12 @@ greatest-spec =
     slice-aggregate-join-at
     join-at-requires
     loop-holds
-    add-k
-    mul-if1
-    add-if1
-    shared-slice-read-if1
+    last-row-requires
     slice-aggregate-join-at-2
-    mul-join-at
-    add-join-at
     join-at-requires-2
+    add-j
     loop-less
     loop-again
-    loop-less-2
-    loop-again-2
     slice-aggregate-copy-cut
     copy-cut-requires
     same-length

@@ -8,16 +8,16 @@ use Rattle.cases.proofs.bases.print_structures.Statement.{statement}
 use Rattle.cases.proofs.bases.print_structures.Tie as tie
 
 abbrev Inv-loop : tie.InvT-loop
-Inv-loop ws bs count n e size slot i₀ i = i ≤ count
+Inv-loop ws bs count x n e size slot i₀ i = i ≤ count
 
 abbrev μ-loop : tie.MeasureT-loop
-μ-loop ws bs count n e size slot i₀ i = count - i
+μ-loop ws bs count x n e size slot i₀ i = count - i
 
 add-size : tie.Need-add-size Inv-loop μ-loop
 add-size c = search needs
 
 mul-size : tie.Need-mul-size Inv-loop μ-loop
-mul-size c = let s = c .before .before in omega (arith, size-small (s .args .e) (s .args .n) (s .pre .2) (s .pre .1))
+mul-size c = let s = c .before .before in omega (arith, size-small (s .args .x .e) (s .args .x .n) (s .pre .0 .few-events) (s .pre .0 .few-stations))
 
 mul-slot : tie.Need-mul-slot Inv-loop μ-loop
 mul-slot c = search needs
@@ -26,16 +26,16 @@ loop-holds : tie.Need-loop-holds Inv-loop μ-loop
 loop-holds c = search needs
 
 mul-print-structure : tie.Need-mul-print-structure Inv-loop μ-loop
-mul-print-structure c = let s = c .before .before .before .before in omega (arith, next-fits (c .before .loop .i) (s .args .count) ((s .args .e + 1) * s .args .n) (c .loop-test .taken), s .pre .4)
+mul-print-structure c = let s = c .before .before .before .before in omega (arith, next-fits (c .before .loop .i) (s .args .count) ((s .args .x .e + 1) * s .args .x .n) (c .loop-test .taken), s .pre .1 .1)
 
 mul-print-structure-2 : tie.Need-mul-print-structure-2 Inv-loop μ-loop
-mul-print-structure-2 c = let s = c .before .before .before .before in omega (arith, next-fits (c .before .loop .i) (s .args .count) (16 * s .args .n) (c .loop-test .taken), s .pre .5)
+mul-print-structure-2 c = let s = c .before .before .before .before in omega (arith, next-fits (c .before .loop .i) (s .args .count) (16 * s .args .x .n) (c .loop-test .taken), s .pre .1 .2)
 
 print-structure-requires : tie.Need-print-structure-requires Inv-loop μ-loop
 print-structure-requires c κs =
     let s = c .before .before .before .before in
     let p = s .pre in
-    (p .0, p .1, p .2, omega (arith, next-fits (c .before .loop .i) (s .args .count) ((s .args .e + 1) * s .args .n) (c .loop-test .taken), p .4), omega (arith, next-fits (c .before .loop .i) (s .args .count) (16 * s .args .n) (c .loop-test .taken), p .5))
+    (p .0, (omega (arith, next-fits (c .before .loop .i) (s .args .count) ((s .args .x .e + 1) * s .args .x .n) (c .loop-test .taken), p .1 .1), omega (arith, next-fits (c .before .loop .i) (s .args .count) (16 * s .args .x .n) (c .loop-test .taken), p .1 .2)))
 
 add-i : tie.Need-add-i Inv-loop μ-loop
 add-i c = search needs
