@@ -17,22 +17,44 @@ use Rattle.lattice.specs.Chains.{Entry, entryAt, entries}
 use Rattle.lattice.specs.Chains.Entry.{lost}
 use Rattle.slots.specs.Slots.{number, Small}
 use Rattle.numbering.proofs.Numbers.{number-le, number-same}
+use Rattle.picking.specs.Rows.{rowOf}
 use Rattle.picking.proofs.Reading.{row-new, row-old}
 use Rattle.chaining.specs.Table.{Chain, chainOf, aboveOf, underOf, roundsOf, Tells, Stands, Chained, Low, Wrote}
 
 -- WRITING
 
-module _ (above under marks a u : List ℕ) (v r : ℕ) (la : length above ≡ 2048) (lu : length under ≡ 2048) (lm : length marks ≡ 512) (lv : v < 256) (l8 : length a ≡ 8) (m8 : length u ≡ 8) where
-  pub wrote : Wrote v a u r (chainOf above under marks) (chainOf (paste above (v * 8) a 8) (paste under (v * 8) u 8) (set marks (256 + v) r))
-  wrote = record {
-    above-size = length-paste above (v * 8) a 8 (omega arith) (omega arith);
-    under-size = length-paste under (v * 8) u 8 (omega arith) (omega arith);
+-- A row written to a table.
+pub row-size : (table table₂ a : List ℕ) (v : ℕ) → length table ≡ 2048 → v < 256 → length a ≡ 8 → table₂ ≡ paste table (v * 8) a 8 → length table₂ ≡ length table
+row-size table table₂ a v l h m e = ap length e ∙ length-paste table (v * 8) a 8 (omega arith) (omega arith)
+
+module _ (above under marks a u above₂ under₂ : List ℕ) (v : ℕ) (la : length above ≡ 2048) (lu : length under ≡ 2048) (lm : length marks ≡ 512) (lv : v < 256) (l8 : length a ≡ 8) (m8 : length u ≡ 8)
+    (ea : above₂ ≡ paste above (v * 8) a 8) (eu : under₂ ≡ paste under (v * 8) u 8) where
+  rows-old : (i : ℕ) → (i ≡ v → ⊥) → (rowOf above₂ i ≡ rowOf above i) × (rowOf under₂ i ≡ rowOf under i)
+  rows-old i f = (ap (λ (t : List ℕ). rowOf t i) ea ∙ row-old above a v la lv l8 i f, ap (λ (t : List ℕ). rowOf t i) eu ∙ row-old under u v lu lv m8 i f)
+
+  pub wrote : (r : ℕ) → Wrote v a u r (chainOf above under marks) (chainOf above₂ under₂ (set marks (256 + v) r))
+  wrote r = record {
+    above-size = row-size above above₂ a v la lv l8 ea;
+    under-size = row-size under under₂ u v lu lv m8 eu;
     marks-size = length-set marks (256 + v) r;
-    above-is = row-new above a v la lv l8;
-    under-is = row-new under u v lu lv m8;
+    above-is = ap (λ (t : List ℕ). rowOf t v) ea ∙ row-new above a v la lv l8;
+    under-is = ap (λ (t : List ℕ). rowOf t v) eu ∙ row-new under u v lu lv m8;
     rounds-is = getD-set-same marks (256 + v) r 0 (omega arith);
-    others = λ i f. (row-old above a v la lv l8 i f, row-old under u v lu lv m8 i f, getD-set-other marks (256 + v) (256 + i) r 0 (λ e. f (omega arith)));
+    others = λ i f. let o = rows-old i f in (o .0, o .1, getD-set-other marks (256 + v) (256 + i) r 0 (λ e. f (omega arith)));
     picks = λ i h. getD-set-other marks (256 + v) i r 0 (λ e. omega arith);
+  }
+
+  -- Both rows, and then the whole entry in their place.
+  pub wrote-over : (a₂ u₂ : List ℕ) (r : ℕ) (chain₂ : Chain) → Wrote v a₂ u₂ r (chainOf above₂ under₂ marks) chain₂ → Wrote v a₂ u₂ r (chainOf above under marks) chain₂
+  wrote-over a₂ u₂ r chain₂ w = record {
+    above-size = w .above-size ∙ row-size above above₂ a v la lv l8 ea;
+    under-size = w .under-size ∙ row-size under under₂ u v lu lv m8 eu;
+    marks-size = w .marks-size;
+    above-is = w .above-is;
+    under-is = w .under-is;
+    rounds-is = w .rounds-is;
+    others = λ i f. let o = w .others i f in let p = rows-old i f in (o .0 ∙ p .0, o .1 ∙ p .1, o .2);
+    picks = w .picks;
   }
 
 pub under-length : (t : Bool) (a b : List ℕ) → length a ≡ 8 → length b ≡ 8 → length (cond t a b) ≡ 8

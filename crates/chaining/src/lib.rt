@@ -90,7 +90,8 @@ fn put_lost(
     marks[256 + v] = rounds;
 }
 
-// The entry of event v, by those of later events. B stands in a table, the clocks in `first`.
+// The entry of event v, by those of later events. B stands in a table, the clocks in `first`. Rows are joined before it is asked whether B has one,
+// so that the compiler reads its eight cells at once.
 fn put_entry(
     above: &mut [u8; 2048],
     under: &mut [u8; 2048],
@@ -109,14 +110,14 @@ fn put_entry(
     ensures { λ _. ⌜ ((m : ℕ) → Low m (now (marks .entry)) → getD (now (marks .exit)) (256 + v) 0 ≤ suc m) ⌝ }
 {
     let s = q.s;
+    let p = wide(marks[wide(table[v * 8 + s])]);
+    raise_row(above, v, table, p);
+    put_under(under, table, first, v, if_right(q.right, v), p);
     if table[v * 8] == NONE {
         put_lost(above, under, marks, v, 1);
         return;
     }
-    let p = wide(marks[wide(table[v * 8 + s])]);
     let r = marks[256 + p];
-    raise_row(above, v, table, p);
-    put_under(under, table, first, v, if_right(q.right, v), p);
     marks[256 + v] = r + 1;
 }
 

@@ -28,7 +28,7 @@ returns : tie.Need-returns
 returns c =
     let s = c .before .before .before .before in
     let a = s .args in
-    rw (c .fill2 .ensures, c .before .before .fill .ensures) (wrote (a .above .now) (a .under .now) (a .marks .now) (replicate 8 255) (replicate 8 255) (a .v) (a .rounds) (s .pre .0) (s .pre .1) (s .pre .2) (s .pre .3) refl refl)
+    wrote (a .above .now) (a .under .now) (a .marks .now) (replicate 8 255) (replicate 8 255) _ _ (a .v) (s .pre .0) (s .pre .1) (s .pre .2) (s .pre .3) refl refl (c .before .before .fill .ensures) (c .fill2 .ensures) (a .rounds)
 
 pub put-lost-spec : {M : Type 1} → statement M
 put-lost-spec =
