@@ -3,11 +3,9 @@ use load::Acceptance;
 use model::Fault;
 use model::LineAnswer;
 use model::Log;
-use opening::asked;
+use opened::answer_one;
 use opening::cramped;
-use opening::lay;
 use opening::open_log;
-use question::put_line;
 ghost use mathlib.Core.Path.{_≡_};
 ghost use mathlib.Core.List.{List, [], _∷_};
 ghost use Prim.Native.Nat.{ℕ, _≤_, _<_};
@@ -31,27 +29,6 @@ fn refused(fault: Fault) -> LineAnswer
         line: 0,
     };
     LineAnswer::Refused(refusal)
-}
-
-// Lays an opened log out, and writes the answer line to its question at the front of `out`; hands back its length.
-fn answer_opened(
-    list: &[u8],
-    store: &[u8],
-    loaded: load::Loaded,
-    question: usize,
-    ws: &mut [u8],
-    bs: &mut [u8],
-    out: &mut [u8],
-) -> usize
-    requires { ⌜ (loaded .length ≤ length (now list)) × (length (now store) ≡ storeSize) × (workspaceSize ≤ length (now ws)) × (barspaceSize ≤ length (now bs)) × (lineSize ≤ length (now out)) ⌝ }
-    requires { ⌜ ((log : List ℕ) × Poses limits log question loaded (now list) (now store)) ⌝ }
-    ensures { λ r. ⌜ ((log : List ℕ) (p : Poses limits log question loaded (now (list .entry)) (now (store .entry))) → AtFront (answerLine (answer (p .accepts .reading .computation) (p .question))) r (now (out .entry)) (now (out .exit))) ⌝ }
-{
-    let mut starts = [0u8; Log::STARTS];
-    let mut facts = [0u16; Log::FACTS];
-    let x = lay(store, loaded, &mut starts, &mut facts);
-    let q = asked(list, loaded, question);
-    put_line(q, x, &starts, &facts, ws, bs, out)
 }
 
 // Answer: the line that answers a question of a log, at the front of `out`.
@@ -82,7 +59,7 @@ pub fn answer(
             if short {
                 return refused(Fault::Output);
             }
-            let size = answer_opened(&list, &store, loaded, question, ws, bs, out);
+            let size = answer_one(&list, &store, loaded, question, ws, bs, out);
             LineAnswer::Written(size)
         }
     }

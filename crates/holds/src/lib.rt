@@ -3,11 +3,9 @@ use load::Acceptance;
 use model::Fault;
 use model::HoldsAnswer;
 use model::Log;
-use opening::asked;
+use opened::test_cut;
 use opening::cramped;
-use opening::lay;
 use opening::open_log;
-use question::true_at;
 ghost use mathlib.Core.Path.{_≡_};
 ghost use mathlib.Core.List.{List, [], _∷_};
 ghost use Prim.Native.Nat.{ℕ, _≤_};
@@ -43,27 +41,6 @@ fn told(yes: bool) -> HoldsAnswer
     }
 }
 
-// Lays an opened log out, and tells whether its question is true at a cut.
-fn holds_opened(
-    list: &[u8],
-    store: &[u8],
-    loaded: load::Loaded,
-    question: usize,
-    cut: &[u8],
-    ws: &mut [u8],
-    bs: &mut [u8],
-) -> bool
-    requires { ⌜ (loaded .length ≤ length (now list)) × (length (now store) ≡ storeSize) × (length (now cut) ≡ loaded .state .stations) × (workspaceSize ≤ length (now ws)) × (barspaceSize ≤ length (now bs)) ⌝ }
-    requires { ⌜ ((log : List ℕ) × Poses limits log question loaded (now list) (now store)) ⌝ }
-    ensures { λ r. ⌜ ((log : List ℕ) (p : Poses limits log question loaded (now (list .entry)) (now (store .entry))) → r ≡ trueAt (p .accepts .reading .computation) (p .question) (now (cut .entry))) ⌝ }
-{
-    let mut starts = [0u8; Log::STARTS];
-    let mut facts = [0u16; Log::FACTS];
-    let x = lay(store, loaded, &mut starts, &mut facts);
-    let q = asked(list, loaded, question);
-    true_at(q, x, &starts, &facts, cut, ws, bs)
-}
-
 // Holds: whether a question of a log is true at a cut.
 pub fn holds(log: &[u8], question: usize, cut: &[u8], ws: &mut [u8], bs: &mut [u8]) -> HoldsAnswer
     ensures { λ r. ⌜ holdsReply r ≡ holdsOp limits (now (log .entry)) question (now (cut .entry)) (length (now (ws .entry))) (length (now (bs .entry))) ⌝ }
@@ -87,7 +64,7 @@ pub fn holds(log: &[u8], question: usize, cut: &[u8], ws: &mut [u8], bs: &mut [u
             if small {
                 return refused(Fault::Workspace);
             }
-            let yes = holds_opened(&list, &store, loaded, question, cut, ws, bs);
+            let yes = test_cut(&list, &store, loaded, question, cut, ws, bs);
             told(yes)
         }
     }

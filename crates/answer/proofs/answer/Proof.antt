@@ -47,14 +47,14 @@ returns-2 c =
     let p = to-poses _ _ (c .before .before .before .before .before .before .before .before .before .before .before .limits .ensures) _ _ _ _ _ _ (c .before .before .before .before .before .before .before .before .open-log .ensures) (c .before .before .before .before .enum-told .given .1) in
     met-refused _ _ _ _ _ _ 12 0 (c .refused2 .ensures) (answer-short _ _ _ _ _ _ _ (poses-is _ _ _ _ _ _ p) (sym (c .before .before .before .cramped .ensures) ∙ c .before .before .if1 .left) (ltb-true _ _ (c .before .if2 .taken)))
 
-slice-aggregate-answer-opened : tie.Need-slice-aggregate-answer-opened
-slice-aggregate-answer-opened c = search needs
+slice-aggregate-answer-one : tie.Need-slice-aggregate-answer-one
+slice-aggregate-answer-one c = search needs
 
-slice-aggregate-answer-opened-2 : tie.Need-slice-aggregate-answer-opened-2
-slice-aggregate-answer-opened-2 c = search needs
+slice-aggregate-answer-one-2 : tie.Need-slice-aggregate-answer-one-2
+slice-aggregate-answer-one-2 c = search needs
 
-answer-opened-requires : tie.Need-answer-opened-requires
-answer-opened-requires c κs =
+answer-one-requires : tie.Need-answer-one-requires
+answer-one-requires c κs =
     let o = c .before .before .before .before .before .before .before .before .before .before .before .before .open-log in
     let p = to-poses _ _ (c .before .before .before .before .before .before .before .before .before .before .before .before .before .before .before .limits .ensures) _ _ _ _ _ _ (c .before .before .before .before .before .before .before .before .before .before .before .before .open-log .ensures) (c .before .before .before .before .before .before .before .before .enum-told .given .1) in
     let room = roomy _ _ (sym (c .before .before .before .before .before .before .before .cramped .ensures) ∙ c .before .before .before .before .before .before .if1 .left) in
@@ -76,7 +76,7 @@ returns-4 : tie.Need-returns-4
 returns-4 c =
     let p = to-poses _ _ (c .before .before .before .before .before .before .before .before .before .before .before .before .before .before .before .before .before .before .before .before .before .before .limits .ensures) _ _ _ _ _ _ (c .before .before .before .before .before .before .before .before .before .before .before .before .before .before .before .before .before .before .before .open-log .ensures) (c .before .before .before .before .before .before .before .before .before .before .before .before .before .before .before .enum-told .given .1) in
     let a = c .before .before .before .before .before .before .before .before .before .before .before .before .before .before .before .before .before .before .before .before .before .before .before .before .before .before .before .args in
-    met-written _ _ (a .ws .now) (a .bs .now) _ _ (answer-line _ _ _ _ _ _ _ (poses-is _ _ _ _ _ _ p) (sym (c .before .before .before .before .before .before .before .before .before .before .before .before .before .before .cramped .ensures) ∙ c .before .before .before .before .before .before .before .before .before .before .before .before .before .if1 .left) (ltb-false _ _ (c .before .before .before .before .before .before .before .before .before .before .before .before .if2 .left))) _ _ (c .before .before .before .before .before .before .answer-opened .ensures _ p)
+    met-written _ _ (a .ws .now) (a .bs .now) _ _ (answer-line _ _ _ _ _ _ _ (poses-is _ _ _ _ _ _ p) (sym (c .before .before .before .before .before .before .before .before .before .before .before .before .before .before .cramped .ensures) ∙ c .before .before .before .before .before .before .before .before .before .before .before .before .before .if1 .left) (ltb-false _ _ (c .before .before .before .before .before .before .before .before .before .before .before .before .if2 .left))) _ _ (c .before .before .before .before .before .before .answer-one .ensures _ p)
 
 pub answer-spec : {M : Type 1} → statement M
 answer-spec =
@@ -93,9 +93,9 @@ answer-spec =
     returns
     refused-requires-2
     returns-2
-    slice-aggregate-answer-opened
-    slice-aggregate-answer-opened-2
-    answer-opened-requires
+    slice-aggregate-answer-one
+    slice-aggregate-answer-one-2
+    answer-one-requires
     returns-3
     same-length
     same-length-2

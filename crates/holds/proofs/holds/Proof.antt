@@ -57,14 +57,14 @@ returns-2 c =
     let p = to-poses _ _ (c .before .before .before .before .before .before .before .before .before .before .before .before .before .before .before .before .limits .ensures) _ _ _ _ _ _ (c .before .before .before .before .before .before .before .before .before .before .before .before .before .open-log .ensures) (c .before .before .before .before .before .before .before .before .before .enum-told .given .1) in
     told-refused _ _ _ _ _ _ 11 0 (c .refused2 .ensures) (holds-cramped _ _ _ _ _ _ _ (poses-is _ _ _ _ _ _ p) (sym (c .before .before .before .before .consistent .ensures _ (p .accepts .holds .stored)) ∙ not-false _ (c .before .before .if1 .left)) (sym (c .before .before .before .cramped .ensures) ∙ c .before .if2 .taken))
 
-slice-aggregate-holds-opened : tie.Need-slice-aggregate-holds-opened
-slice-aggregate-holds-opened c = search needs
+slice-aggregate-test-cut : tie.Need-slice-aggregate-test-cut
+slice-aggregate-test-cut c = search needs
 
-slice-aggregate-holds-opened-2 : tie.Need-slice-aggregate-holds-opened-2
-slice-aggregate-holds-opened-2 c = search needs
+slice-aggregate-test-cut-2 : tie.Need-slice-aggregate-test-cut-2
+slice-aggregate-test-cut-2 c = search needs
 
-holds-opened-requires : tie.Need-holds-opened-requires
-holds-opened-requires c κs =
+test-cut-requires : tie.Need-test-cut-requires
+test-cut-requires c κs =
     let o = c .before .before .before .before .before .before .before .before .before .before .before .before .before .before .before .before .open-log in
     let p = to-poses _ _ (c .before .before .before .before .before .before .before .before .before .before .before .before .before .before .before .before .before .before .before .limits .ensures) _ _ _ _ _ _ (c .before .before .before .before .before .before .before .before .before .before .before .before .before .before .before .before .open-log .ensures) (c .before .before .before .before .before .before .before .before .before .before .before .before .enum-told .given .1) in
     let room = roomy _ _ (sym (c .before .before .before .before .before .before .cramped .ensures) ∙ c .before .before .before .before .if2 .left) in
@@ -86,7 +86,7 @@ returns-4 : tie.Need-returns-4
 returns-4 c =
     let p = to-poses _ _ (c .before .before .before .before .before .before .before .before .before .before .before .before .before .before .before .before .before .before .before .before .before .before .before .before .before .limits .ensures) _ _ _ _ _ _ (c .before .before .before .before .before .before .before .before .before .before .before .before .before .before .before .before .before .before .before .before .before .before .open-log .ensures) (c .before .before .before .before .before .before .before .before .before .before .before .before .before .before .before .before .before .before .enum-told .given .1) in
     let a = c .before .before .before .before .before .before .before .before .before .before .before .before .before .before .before .before .before .before .before .before .before .before .before .before .before .before .before .before .before .before .args in
-    told-given _ _ _ (a .ws .now) (a .bs .now) _ _ (c .told .ensures) (holds-told _ _ _ _ _ _ _ (poses-is _ _ _ _ _ _ p) (sym (c .before .before .before .before .before .before .before .before .before .before .before .before .before .consistent .ensures _ (p .accepts .holds .stored)) ∙ not-false _ (c .before .before .before .before .before .before .before .before .before .before .before .if1 .left)) (sym (c .before .before .before .before .before .before .before .before .before .before .before .before .cramped .ensures) ∙ c .before .before .before .before .before .before .before .before .before .before .if2 .left) _ (sym (c .before .before .before .before .before .holds-opened .ensures _ p))) _ _
+    told-given _ _ _ (a .ws .now) (a .bs .now) _ _ (c .told .ensures) (holds-told _ _ _ _ _ _ _ (poses-is _ _ _ _ _ _ p) (sym (c .before .before .before .before .before .before .before .before .before .before .before .before .before .consistent .ensures _ (p .accepts .holds .stored)) ∙ not-false _ (c .before .before .before .before .before .before .before .before .before .before .before .if1 .left)) (sym (c .before .before .before .before .before .before .before .before .before .before .before .before .cramped .ensures) ∙ c .before .before .before .before .before .before .before .before .before .before .if2 .left) _ (sym (c .before .before .before .before .before .test-cut .ensures _ p))) _ _
 
 pub holds-spec : {M : Type 1} → statement M
 holds-spec =
@@ -105,9 +105,9 @@ holds-spec =
     returns
     refused-requires-2
     returns-2
-    slice-aggregate-holds-opened
-    slice-aggregate-holds-opened-2
-    holds-opened-requires
+    slice-aggregate-test-cut
+    slice-aggregate-test-cut-2
+    test-cut-requires
     told-requires
     returns-3
     same-length

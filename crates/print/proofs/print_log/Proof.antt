@@ -34,14 +34,14 @@ put-refusal-requires c κs =
 enum-told : tie.Need-enum-told
 enum-told c = search needs
 
-slice-aggregate-print-loaded : tie.Need-slice-aggregate-print-loaded
-slice-aggregate-print-loaded c = search needs
+slice-aggregate-answer-all : tie.Need-slice-aggregate-answer-all
+slice-aggregate-answer-all c = search needs
 
-slice-aggregate-print-loaded-2 : tie.Need-slice-aggregate-print-loaded-2
-slice-aggregate-print-loaded-2 c = search needs
+slice-aggregate-answer-all-2 : tie.Need-slice-aggregate-answer-all-2
+slice-aggregate-answer-all-2 c = search needs
 
-print-loaded-requires : tie.Need-print-loaded-requires
-print-loaded-requires c κs =
+answer-all-requires : tie.Need-answer-all-requires
+answer-all-requires c κs =
     let l = c .before .before .before .before .before .before .before .load in
     let a = to-accepts _ _ (c .before .before .before .before .before .before .before .before .before .before .print-limits .ensures) _ _ _ _ _ _ (c .before .before .before .before .before .before .before .load .ensures .0) (c .before .before .before .enum-told .given .1) in
     ((omega (arith, a .short, l .kept), omega (arith, l .kept), search needs), (_, a))
@@ -54,7 +54,7 @@ returns c =
 returns-2 : tie.Need-returns-2
 returns-2 c =
     let a = to-accepts _ _ (c .before .before .before .before .before .before .before .before .before .before .before .print-limits .ensures) _ _ _ _ _ _ (c .before .before .before .before .before .before .before .before .load .ensures .0) (c .before .before .before .before .enum-told .given .1) in
-    printed-so (printed-lines _ (a .reading) (a .is)) (c .print-loaded .ensures _ a)
+    printed-so (printed-lines _ (a .reading) (a .is)) (c .answer-all .ensures _ a)
 
 pub print-log-spec : {M : Type 1} → statement M
 print-log-spec =
@@ -68,8 +68,8 @@ print-log-spec =
     number-requires
     put-refusal-requires
     enum-told
-    slice-aggregate-print-loaded
-    slice-aggregate-print-loaded-2
-    print-loaded-requires
+    slice-aggregate-answer-all
+    slice-aggregate-answer-all-2
+    answer-all-requires
     returns
     returns-2)

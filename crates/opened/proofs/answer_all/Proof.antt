@@ -1,9 +1,9 @@
--- `print_loaded` meets its contract: the log is laid out once, and all its questions are answered over that. Assumes nothing.
+-- `answer_all` meets its contract: the log is laid out once, and all its questions are answered over that. Assumes nothing.
 use mathlib.Core.Path.{refl}
 use borrow.Author.Needs.{needs}
 use Rattle.load.proofs.Loads.{no-larger}
-use Rattle.print.proofs.print_loaded.Statement.{statement}
-use Rattle.print.proofs.print_loaded.Tie as tie
+use Rattle.opened.proofs.answer_all.Statement.{statement}
+use Rattle.opened.proofs.answer_all.Tie as tie
 
 slice-aggregate-lay : tie.Need-slice-aggregate-lay
 slice-aggregate-lay c = search needs
@@ -32,8 +32,8 @@ same-length c = search needs
 returns : tie.Need-returns
 returns c log a = c .before .before .put-lines .ensures (record { log = log; store = _; accepts = a; laid = c .before .before .before .before .before .before .before .before .lay .ensures .1 _ _ _ a })
 
-pub print-loaded-spec : {M : Type 1} → statement M
-print-loaded-spec =
+pub answer-all-spec : {M : Type 1} → statement M
+answer-all-spec =
     tie.close
     (tie.spec
     slice-aggregate-lay

@@ -7,9 +7,9 @@ use lib.ListN.{length, length-take, length-drop}
 use borrow.Rule.Slice.PartMut.{same-len-mid}
 use Rattle.load.proofs.Loads.{no-larger}
 use Rattle.opening.proofs.Logs.{question-there, question-count, posed}
-use Rattle.print.proofs.Printed.{Printing, printing-none, printing-more, printing-all, line-short}
-use Rattle.print.proofs.put_lines.Statement.{statement}
-use Rattle.print.proofs.put_lines.Tie as tie
+use Rattle.opened.proofs.Lines.{Printing, printing-none, printing-more, printing-all, line-short}
+use Rattle.opened.proofs.put_lines.Statement.{statement}
+use Rattle.opened.proofs.put_lines.Tie as tie
 
 abbrev Inv-loop : tie.InvT-loop
 Inv-loop list loaded x starts facts out₀ s ws₀ bs₀ end₀ i₀ out ws bs end i =

@@ -1,10 +1,10 @@
--- `holds_opened` meets its contract: the question is found and worked out over the computation that was laid out. Assumes nothing.
+-- `test_cut` meets its contract: the question is found and worked out over the computation that was laid out. Assumes nothing.
 use mathlib.Core.Path.{refl, sym, _∙_}
 use borrow.Author.Needs.{needs}
 use Rattle.load.proofs.Loads.{no-larger}
 use Rattle.opening.proofs.Logs.{below, question, posed}
-use Rattle.holds.proofs.holds_opened.Statement.{statement}
-use Rattle.holds.proofs.holds_opened.Tie as tie
+use Rattle.opened.proofs.test_cut.Statement.{statement}
+use Rattle.opened.proofs.test_cut.Tie as tie
 
 slice-aggregate-lay : tie.Need-slice-aggregate-lay
 slice-aggregate-lay c = search needs
@@ -43,8 +43,8 @@ returns c = λ log o.
     let a = o .accepts in
     c .before .before .before .before .true-at .ensures _ (o .question) (question a _ (o .question) (o .is) _ (c .before .before .before .before .before .before .before .before .before .asked .ensures _ _ _ a (o .question) (o .is)) (c .before .before .before .before .before .before .before .before .before .before .before .before .lay .ensures .1 _ _ _ a))
 
-pub holds-opened-spec : {M : Type 1} → statement M
-holds-opened-spec =
+pub test-cut-spec : {M : Type 1} → statement M
+test-cut-spec =
     tie.close
     (tie.spec
     slice-aggregate-lay

@@ -1,10 +1,10 @@
--- `answer_opened` meets its contract: the question is found and worked out over the computation that was laid out. Assumes nothing.
+-- `answer_one` meets its contract: the question is found and worked out over the computation that was laid out. Assumes nothing.
 use mathlib.Core.Path.{refl}
 use borrow.Author.Needs.{needs}
 use Rattle.load.proofs.Loads.{no-larger}
 use Rattle.opening.proofs.Logs.{below, question, posed}
-use Rattle.answer.proofs.answer_opened.Statement.{statement}
-use Rattle.answer.proofs.answer_opened.Tie as tie
+use Rattle.opened.proofs.answer_one.Statement.{statement}
+use Rattle.opened.proofs.answer_one.Tie as tie
 
 slice-aggregate-lay : tie.Need-slice-aggregate-lay
 slice-aggregate-lay c = search needs
@@ -45,8 +45,8 @@ returns c = λ log o.
     let a = o .accepts in
     c .before .before .before .before .before .before .put-line .ensures _ (o .question) (question a _ (o .question) (o .is) _ (c .before .before .before .before .before .before .before .before .before .before .before .before .asked .ensures _ _ _ a (o .question) (o .is)) (c .before .before .before .before .before .before .before .before .before .before .before .before .before .before .before .lay .ensures .1 _ _ _ a))
 
-pub answer-opened-spec : {M : Type 1} → statement M
-answer-opened-spec =
+pub answer-one-spec : {M : Type 1} → statement M
+answer-one-spec =
     tie.close
     (tie.spec
     slice-aggregate-lay
