@@ -175,7 +175,7 @@ pub fn combine(
     let used = l.used + 1 + r.used;
     let rounds = rounds_of(l, r);
     if pair {
-        let c = pairs::pair_all(ws, bs, l.sets, r.sets, x, starts);
+        let c = conjunction::pair_all(ws, bs, l.sets, r.sets, x, starts);
         return unmarked(c.count, used, rounds + c.rounds);
     }
     Basis {
