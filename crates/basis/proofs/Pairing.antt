@@ -35,7 +35,8 @@ use Rattle.modal.specs.Post.{Present}
 use Rattle.cells.proofs.Parts.{put-end}
 use Rattle.modal.proofs.Laws.{part-room}
 use Rattle.token.specs.Signed.{twoToken, joinedBasis, joinedRounds}
-use Rattle.token.specs.Contract.{roundsMost, Given, Ready, Made, Combined}
+use Rattle.token.specs.Contract.{roundsMost, Given, Ready, Made}
+use Rattle.joining.specs.Combined.{Combined}
 use Rattle.pairs.specs.Post.{Bases, PairsReady}
 use Rattle.token.proofs.Tokens as tokens
 use Rattle.token.proofs.Normals as normals

@@ -1,8 +1,8 @@
 // The basis of a formula and of its negation, worked out by two functions that call each other.
 use cells::after;
+use joining::combine;
 use structure::Shape;
 use token::Basis;
-use token::combine;
 use token::leaf;
 use token::lift;
 use token::passed;

@@ -7,7 +7,6 @@ use lib.ListN.{length, replicate}
 use Rattle.model.specs.Limits.{stepRounds}
 use Rattle.model.specs.Formula.{Formula, prefix, sound, tokens}
 use Rattle.model.specs.Computation.{Computation, full}
-use Rattle.model.specs.Structure.{Structure}
 use Rattle.model.specs.Size.{held, narrow}
 use Rattle.model.specs.Basis.{basis}
 use Rattle.model.specs.Rounds.{rounds}
@@ -17,12 +16,10 @@ use Rattle.structure.specs.declared.Sets.{Sets}
 use Rattle.structure.specs.Marks.{Marked, Within}
 use Rattle.structure.specs.Laid.{Laid, Facts}
 use Rattle.modal.specs.Post.{Present}
-use Rattle.pair.specs.Post.{standingFrom}
-use Rattle.pairs.specs.Post.{Bases}
 use Rattle.lattice.specs.Signed.{normal}
 use Rattle.lattice.specs.Ascending.{RowsAscend}
 use Rattle.lattice.proofs.Lists.{All}
-use Rattle.token.specs.Signed.{joinedBasis, joinedRounds, liftedBasis}
+use Rattle.token.specs.Signed.{liftedBasis}
 
 -- The most rounds of a question.
 abbrev pub roundsMost : ℕ
@@ -55,22 +52,6 @@ pub record Made (s : Bool) (x : Shape) (q starts facts : List ℕ) (sets : Sets)
   pub within : Within (x .n) (sets .stations)
 
 -- STEPS
-
--- The l structures at the front of w and b and the r behind them, if both are bases, became those at the front of w₂ and b₂, in `sum` rounds.
-pub record Joined (pair : Bool) (x : Shape) (l r : Sets) (starts w w₂ b b₂ : List ℕ) (sets : Sets) (sum : ℕ) : Type 0 where
-  pub stands : (K : Computation) → Laid K x starts → Bases x l r w b K
-      → standing (x .n) (full K) (sets .count) w₂ b₂ ≡ joinedBasis pair K (standing (x .n) (full K) (l .count) w b) (standingFrom (x .n) (x .e) K w b (l .count) (r .count))
-  pub summed : (K : Computation) → Laid K x starts → Bases x l r w b K
-      → sum ≡ joinedRounds pair K (standing (x .n) (full K) (l .count) w b) (standingFrom (x .n) (x .e) K w b (l .count) (r .count))
-  pub least : Present ((x .e + 1) * x .n) (sets .count) w₂
-  pub marked : (K : Computation) (L R : List Structure) → length L ≡ l .count → Marked K L (l .stations) → Marked K R (r .stations) → Marked K (joinedBasis pair K L R) (sets .stations)
-  pub within : Within (x .n) (sets .stations)
-
--- The same with the rounds u and v of the two bases.
-pub record Combined (pair : Bool) (x : Shape) (l r : Sets) (u v : ℕ) (starts w w₂ b b₂ : List ℕ) (sets : Sets) (sum : ℕ) : Type 0 where
-  pub joined-rounds : ℕ
-  pub joined : Joined pair x l r starts w w₂ b b₂ sets joined-rounds
-  pub summed : sum ≡ u + v + joined-rounds
 
 -- The k structures at the front of w and b, if their rows ascend, became those at the front of w₂ and b₂, of which none is marked.
 pub record Lifted (wide : Bool) (x : Shape) (k : ℕ) (starts w w₂ b b₂ : List ℕ) (sets : Sets) : Type 0 where

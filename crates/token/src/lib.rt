@@ -1,21 +1,16 @@
-// The step for each token: an atom at the front of a question, possibly and not possibly, "and" and "or" of bases that stand.
+// The steps for tokens of at most one operand: an atom at the front of a question, not, possibly and not possibly.
 use cells::wide;
 use cells::word;
 use structure::Sets;
 use structure::Shape;
 ghost use mathlib.Core.Path.{_≡_};
-ghost use mathlib.Core.Bool.{true};
-ghost use mathlib.Core.List.{List, _∷_, _++_};
-ghost use Prim.Native.Nat.{ℕ, _+_, _*_, _≤_, _<_};
+ghost use mathlib.Core.List.{_∷_};
+ghost use Prim.Native.Nat.{_+_, _*_, _≤_, _<_};
 ghost use lib.ListN.{length, getD, replicate};
-ghost use Rattle.model.specs.Computation.{Computation};
-ghost use Rattle.model.specs.Structure.{Structure};
-ghost use Rattle.structure.specs.Marks.{Marked, Within};
 ghost use Rattle.structure.specs.Shaped.{Shaped};
 ghost use Rattle.steps.specs.Rows.{rowAt};
 ghost use Rattle.modal.specs.Post.{Present};
-ghost use Rattle.pairs.specs.Post.{PairsReady};
-ghost use Rattle.token.specs.Contract.{roundsMost, Ready, Made, Combined, Lifted};
+ghost use Rattle.token.specs.Contract.{Ready, Made, Lifted};
 
 // A basis at the front of the workspace: its structures, the bytes of the question that it took, its rounds.
 pub struct Basis {
@@ -25,7 +20,7 @@ pub struct Basis {
 }
 
 // A basis of which no structure is marked.
-fn unmarked(count: usize, used: usize, rounds: u32) -> Basis
+pub fn unmarked(count: usize, used: usize, rounds: u32) -> Basis
     ensures { λ r. ⌜ (r .sets .count ≡ count) × (r .sets .stations ≡ replicate 16 0) × (r .used ≡ used) × (r .rounds ≡ rounds) ⌝ }
 {
     Basis {
@@ -130,57 +125,4 @@ pub fn lift(ws: &mut [u8], bs: &mut [u8], wide: bool, p: Basis, x: Shape, starts
     }
     let c = modal::bar(ws, bs, k, x, starts);
     unmarked(c, used, p.rounds)
-}
-
-// The rounds of two operands: the right one is worked out also where the left basis is empty.
-fn rounds_of(l: Basis, r: Basis) -> u32
-    requires { ⌜ (l .rounds ≤ roundsMost) × (r .rounds ≤ roundsMost) ⌝ }
-    ensures { λ s. ⌜ s ≡ l .rounds + r .rounds ⌝ }
-{
-    l.rounds + r.rounds
-}
-
-// Structures one behind the other, with their marks as far as there is room for them.
-fn both(l: Sets, r: Sets) -> Sets
-    requires { ⌜ (l .count ≤ 16) × (r .count ≤ 16) ⌝ }
-    ensures { λ s. ⌜ (s .count ≡ l .count + r .count) × ((n : ℕ) → Within n (l .stations) → Within n (r .stations) → Within n (s .stations))
-        × ((K : Computation) (L R : List Structure) → length L ≡ l .count → Marked K L (l .stations) → Marked K R (r .stations) → Marked K (L ++ R) (s .stations)) ⌝ }
-{
-    let k = l.count;
-    let mut m = l.stations;
-    let b = r.stations;
-    cells::copy(&mut m, k, &b, 0, 16 - k);
-    Sets {
-        count: k + r.count,
-        stations: m,
-    }
-}
-
-// Two bases that stand one behind the other: their pairs, or both.
-pub fn combine(
-    ws: &mut [u8],
-    bs: &mut [u8],
-    pair: bool,
-    l: Basis,
-    r: Basis,
-    x: Shape,
-    starts: &[u8],
-) -> Basis
-    requires { ⌜ Shaped x ⌝ }
-    requires { ⌜ ((x .e + 1) * x .n ≤ length (now starts)) × (l .used ≤ 192) × (r .used ≤ 192) × (l .rounds ≤ roundsMost) × (r .rounds ≤ roundsMost) × (l .sets .count ≤ 16) × (r .sets .count ≤ 16) ⌝ }
-    requires { ⌜ Present ((x .e + 1) * x .n) (l .sets .count + r .sets .count) (now ws) × Within (x .n) (l .sets .stations) × Within (x .n) (r .sets .stations) ⌝ }
-    requires { ⌜ (pair ≡ true → PairsReady x (l .sets) (r .sets) (now ws) (now bs)) ⌝ }
-    ensures { λ p. ⌜ (p .used ≡ l .used + 1 + r .used) × Combined pair x (l .sets) (r .sets) (l .rounds) (r .rounds) (now (starts .entry)) (now (ws .entry)) (now (ws .exit)) (now (bs .entry)) (now (bs .exit)) (p .sets) (p .rounds) ⌝ }
-{
-    let used = l.used + 1 + r.used;
-    let rounds = rounds_of(l, r);
-    if pair {
-        let c = conjunction::pair_all(ws, bs, l.sets, r.sets, x, starts);
-        return unmarked(c.count, used, rounds + c.rounds);
-    }
-    Basis {
-        sets: both(l.sets, r.sets),
-        used: used,
-        rounds: rounds,
-    }
 }

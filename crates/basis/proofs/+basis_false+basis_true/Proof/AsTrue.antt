@@ -17,7 +17,7 @@ use Rattle.basis.proofs.basis_false.Reads as basis-false
 use Rattle.basis.proofs.basis_true.Reads as basis-true
 use Rattle.basis.proofs.+basis_false+basis_true.Lts-basis_true as basis-true-lts
 use Rattle.cells.proofs.after.Reads as after-reads
-use Rattle.token.proofs.combine.Reads as combine-reads
+use Rattle.joining.proofs.combine.Reads as combine-reads
 use Rattle.token.proofs.leaf.Reads as leaf-reads
 use Rattle.token.proofs.lift.Reads as lift-reads
 use Rattle.token.proofs.passed.Reads as passed-reads

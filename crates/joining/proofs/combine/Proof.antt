@@ -3,10 +3,10 @@ use Prim.Native.Nat.{ℕ, _+_}
 use mathlib.Core.Path.{refl, ap, _∙_}
 use native.Mathlib.Omega.{arith}
 use Rattle.pairs.proofs.Room.{pair-small}
-use Rattle.token.proofs.Operands as laws
+use Rattle.joining.proofs.Combining as laws
 use borrow.Author.Needs.{needs}
-use Rattle.token.proofs.combine.Statement.{statement}
-use Rattle.token.proofs.combine.Tie as tie
+use Rattle.joining.proofs.combine.Statement.{statement}
+use Rattle.joining.proofs.combine.Tie as tie
 
 add-used : tie.Need-add-used
 add-used c = search needs

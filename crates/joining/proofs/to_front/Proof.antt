@@ -1,10 +1,10 @@
--- `conjunction::to_front` meets its contract: all that is moved lies within the two spaces.
+-- `joining::to_front` meets its contract: all that is moved lies within the two spaces.
 use mathlib.Core.Logic.{inr}
 use native.Mathlib.Omega.{arith}
 use Rattle.steps.proofs.Parts.{size-small}
 use borrow.Author.Needs.{needs}
-use Rattle.conjunction.proofs.to_front.Statement.{statement}
-use Rattle.conjunction.proofs.to_front.Tie as tie
+use Rattle.joining.proofs.to_front.Statement.{statement}
+use Rattle.joining.proofs.to_front.Tie as tie
 
 add-size : tie.Need-add-size
 add-size c = search needs

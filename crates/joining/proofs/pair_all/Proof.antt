@@ -1,4 +1,4 @@
--- `conjunction::pair_all` meets its contract: the starts stand in a table, and the pairs kept are moved to the front.
+-- `joining::pair_all` meets its contract: the starts stand in a table, and the pairs kept are moved to the front.
 use mathlib.Core.Path.{_∙_}
 use Prim.Native.Nat.{ℕ, _+_, _*_}
 use native.Mathlib.Omega.{arith}
@@ -10,8 +10,8 @@ use Rattle.pairs.specs.Post.{AllPairs}
 use Rattle.pairs.proofs.Putting.{allX, allY, moved-stands, moved-least}
 use Rattle.pairs.proofs.Room.{rounds-fit, end-room}
 use borrow.Author.Needs.{needs}
-use Rattle.conjunction.proofs.pair_all.Statement.{statement}
-use Rattle.conjunction.proofs.pair_all.Tie as tie
+use Rattle.joining.proofs.pair_all.Statement.{statement}
+use Rattle.joining.proofs.pair_all.Tie as tie
 
 coding-requires : tie.Need-coding-requires
 coding-requires c κs = search needs

@@ -6,8 +6,8 @@ use lib.ListN.{length}
 use Rattle.structure.specs.Marks.{Marked, Within}
 use Rattle.structure.proofs.Marks.{both-marked, both-within}
 use borrow.Author.Needs.{needs}
-use Rattle.token.proofs.both.Statement.{statement}
-use Rattle.token.proofs.both.Tie as tie
+use Rattle.joining.proofs.both.Statement.{statement}
+use Rattle.joining.proofs.both.Tie as tie
 
 slice-aggregate-copy : tie.Need-slice-aggregate-copy
 slice-aggregate-copy c = search needs
