@@ -22,7 +22,7 @@ use Rattle.structure.specs.Layout.{structureAt, standing, barsAt, cells, barCel
 use Rattle.structure.specs.declared.Shape.{Shape}
 use Rattle.structure.specs.declared.Sets.{Sets}
 use Rattle.structure.specs.Marks.{Marked}
-use Rattle.structure.specs.Laid.{Laid}
+use Rattle.structure.specs.Laid.{Laid, Given}
 use Rattle.lattice.proofs.Signed as signed
 use Rattle.lattice.specs.Signed.{normal, two, joinedForm}
 use Rattle.lattice.proofs.Tests.{and-true}
@@ -35,7 +35,7 @@ use Rattle.modal.specs.Post.{Present}
 use Rattle.cells.proofs.Parts.{put-end}
 use Rattle.modal.proofs.Laws.{part-room}
 use Rattle.token.specs.Signed.{twoToken, joinedBasis, joinedRounds}
-use Rattle.token.specs.Contract.{roundsMost, Given, Ready, Made}
+use Rattle.token.specs.Contract.{roundsMost, Ready, Made}
 use Rattle.joining.specs.Combined.{Combined}
 use Rattle.pairs.specs.Post.{Bases, PairsReady}
 use Rattle.token.proofs.Tokens as tokens

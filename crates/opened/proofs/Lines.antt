@@ -24,7 +24,8 @@ use Rattle.cells.proofs.Parts.{put-end}
 use Rattle.line.specs.AtFront.{AtFront}
 use Rattle.question.specs.Questions.{Question}
 use Rattle.opening.specs.Prepared.{Prepared}
-use Rattle.opening.proofs.Logs.{question-there, question-count, is-asked, question}
+use Rattle.question.proofs.Posed.{question}
+use Rattle.opening.proofs.Logs.{question-there, question-count, is-asked, good-at}
 
 lines-append : (K : Computation) (l m : List Formula) → answerLines K (l ++ m) ≡ answerLines K l ++ answerLines K m
 unfolding answerLines
@@ -70,7 +71,7 @@ module _ {l : Loaded} {list : List ℕ} {x : Shape} {starts facts : List ℕ} (o
   there p = question-there (p .accepts .reading .questions) i (omega (arith, question-count (p .accepts)))
 
   written : (p : Prepared printLimits l list x starts facts) → AtFront (answerLine (answer (p .accepts .reading .computation) (there p .0))) r (take (length out - end) (drop end out)) part
-  written p = put (p .accepts .reading .computation) (there p .0) (question (p .accepts) i (there p .0) (there p .1) bytes (found printLimits (p .log) (p .store) (p .accepts) (there p .0) (there p .1)) (p .laid))
+  written p = put (p .accepts .reading .computation) (there p .0) (question (p .accepts .reading .computation) (there p .0) (good-at (p .accepts) i (there p .0) (there p .1)) bytes (found printLimits (p .log) (p .store) (p .accepts) (there p .0) (there p .1)) (p .laid))
 
   -- One more line, within the size of a line.
   pub line-short : Prepared printLimits l list x starts facts → r ≤ lineSize

@@ -1,38 +1,35 @@
--- What a loaded log gives: its computation can be laid out, and each question of it can be found and worked out.
+-- What a loaded log gives: its computation can be laid out, and each question of it can be found, is sound and fits.
 use mathlib.Core.Path.{_≡_, refl, sym, ap, _∙_}
 use mathlib.Core.Bool.{true}
 use mathlib.Core.List.{List, [], _∷_}
 use mathlib.Core.Option.{none, some}
 use Prim.Native.Nat.{ℕ, zero, suc, _+_, _≤_, _<_}
 use native.Mathlib.Omega.{arith}
-use native.Mathlib.Numerals.{add-one}
 use native.Mathlib.Nat.{le-trans}
 use lib.ListN.{length, take, getD, getElem?, length-map, List·getD-map}
 use lib.Seq.{ext-getD, getD-take, length-take-le}
 use Rattle.model.specs.declared.Limits.{Limits}
-use Rattle.model.specs.Limits.{limits, workspaceSize}
+use Rattle.model.specs.Limits.{limits}
 use Rattle.model.specs.Lists.{total}
-use Rattle.model.specs.Formula.{Formula, prefix}
+use Rattle.model.specs.Formula.{Formula, prefix, sound}
+use Rattle.model.specs.Size.{fits}
 use Rattle.model.specs.Cut.{Cut}
-use Rattle.model.specs.Computation.{Computation, stations, count, full, isConsistent}
+use Rattle.model.specs.Computation.{stations, count, full, isConsistent}
 use Rattle.model.specs.Promise.{Asked}
 use Rattle.lattice.proofs.Consistency.{consistent-iff}
 use Rattle.lattice.proofs.Lists.{all-at}
-use Rattle.lattice.proofs.Held.{workspace-fits}
 use Rattle.codec.specs.Limits.{NoLarger}
 use Rattle.codec.proofs.Bytes.{Bytes, bytes-tail}
 use Rattle.codec.proofs.Formulas.{prefix-formula}
 use Rattle.codec.proofs.Lawful.{Lawful}
 use Rattle.codec.proofs.QuestionFrames.{questionFrames, question-spelt}
 use Rattle.codec.proofs.Readings.{log-are-frames}
-use Rattle.structure.specs.declared.Shape.{Shape}
-use Rattle.token.specs.Contract.{Given}
 use Rattle.frame.specs.declared.State.{State}
 use Rattle.frame.specs.State.{firstQuestion, Bounded}
 use Rattle.load.specs.Loading.{Accepts}
 use Rattle.load.proofs.Questions.{good, question-frame}
 use Rattle.layout.specs.StoredValid.{StoredValid}
-use Rattle.question.specs.Questions.{Asks, Question, cellsHeld}
+use Rattle.frames.specs.Asks.{Asks}
 
 -- There is a question at each number below their count, and none from there on.
 
@@ -117,14 +114,5 @@ module _ {m : Limits} {log : List ℕ} {s : State} {k : ℕ} {list t : List ℕ}
     pub is-asked : Asked m log q (a .reading .computation) f
     is-asked = record { frames = a .reading .frames; questions = a .reading .questions; reads = a .is; is = is }
 
-    pub question : {x : Shape} {starts facts : List ℕ} (bytes : List ℕ) → bytes ≡ prefix f → Given (a .reading .computation) x starts facts → Question (a .reading .computation) f bytes x starts facts
-    question bytes e laid = record { laid = laid; spells = e; named = rw (laid .0 .stationed) at (law .good q f is .0); fitting = law .good q f is .1 }
-
-    -- There is room to work it out.
-    pub posed : {x : Shape} {starts facts : List ℕ} (bytes : List ℕ) → bytes ≡ prefix f → Given (a .reading .computation) x starts facts → (room : ℕ) → workspaceSize ≤ room
-        → (K : Computation) × (f : Formula) × Question K f bytes x starts facts × (cellsHeld f x ≤ room)
-    posed {x = x} bytes e laid room h =
-        let g = question bytes e laid in
-        let few = laid .0 .shaped in
-        let cells : cellsHeld f x ≤ workspaceSize = rw (add-one (x .e)) (workspace-fits f (g .fitting) (x .n) (x .e) (few .few-stations) (few .few-events)) in
-        (a .reading .computation, f, g, le-trans cells h)
+    pub good-at : (sound (stations (a .reading .computation)) f ≡ true) × (fits f ≡ true)
+    good-at = law .good q f is

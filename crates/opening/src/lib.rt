@@ -1,8 +1,8 @@
 // What every operation that asks about a question begins with: a log is loaded, and has the question.
+use frames::question_at;
 use load::Acceptance;
 use load::Loaded;
 use model::Log;
-use question::frames::question_at;
 use structure::Shape;
 ghost use mathlib.Core.Path.{_≡_};
 ghost use mathlib.Core.List.{List};
@@ -14,7 +14,7 @@ ghost use Rattle.model.specs.Limits.{limits, storeSize, startsSize, factsSize};
 ghost use Rattle.model.specs.Formula.{Formula, prefix};
 ghost use Rattle.model.specs.Operations.{cramped};
 ghost use Rattle.codec.specs.Limits.{NoLarger};
-ghost use Rattle.token.specs.Contract.{Given};
+ghost use Rattle.structure.specs.Laid.{Given};
 ghost use Rattle.load.specs.Loading.{Accepts};
 ghost use Rattle.opening.specs.Opening.{Holding, Opens};
 

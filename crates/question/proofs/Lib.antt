@@ -1,3 +1,3 @@
-mod Walks
 pub mod Bases
 mod Answers
+pub mod Posed

@@ -1,6 +1,4 @@
-// One question of a log that is laid out: its bytes found, its basis worked out, asked at a cut, its answer's line.
-pub mod frames;
-
+// One question of a log that is laid out: its basis worked out, asked at a cut, its answer's line.
 use model::Log;
 use structure::Shape;
 ghost use mathlib.Core.Path.{_≡_};

@@ -27,3 +27,7 @@ pub record Laid (K : Computation) (x : Shape) (starts : List ℕ) : Type 0 where
 pub record Facts (K : Computation) (x : Shape) (facts : List ℕ) : Type 0 where
   pub values-fit : x .e + x .n ≤ length facts
   pub values-are : (j k : ℕ) → j < x .n → k ≤ count K j → getD facts (total (take j (full K)) + j + k) 0 ≡ value K j k
+
+-- K is laid out, with what its atoms look at.
+abbrev pub Given : Computation → Shape → List ℕ → List ℕ → Type 0
+Given K x starts facts = Laid K x starts × Facts K x facts

@@ -33,7 +33,8 @@ use Rattle.structure.specs.declared.Shape.{Shape}
 use Rattle.structure.specs.declared.Sets.{Sets}
 use Rattle.structure.specs.Marks.{Marked, Within}
 use Rattle.structure.proofs.Marks.{none-marked, none-within}
-use Rattle.token.specs.Contract.{roundsMost, Given, Ready, Made, Lifted}
+use Rattle.token.specs.Contract.{roundsMost, Ready, Made, Lifted}
+use Rattle.structure.specs.Laid.{Given}
 use Rattle.token.proofs.Tokens as tokens
 use Rattle.token.proofs.Normals as normals
 

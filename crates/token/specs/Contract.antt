@@ -14,7 +14,7 @@ use Rattle.structure.specs.Layout.{standing}
 use Rattle.structure.specs.declared.Shape.{Shape}
 use Rattle.structure.specs.declared.Sets.{Sets}
 use Rattle.structure.specs.Marks.{Marked, Within}
-use Rattle.structure.specs.Laid.{Laid, Facts}
+use Rattle.structure.specs.Laid.{Laid, Given}
 use Rattle.modal.specs.Post.{Present}
 use Rattle.lattice.specs.Signed.{normal}
 use Rattle.lattice.specs.Ascending.{RowsAscend}
@@ -24,10 +24,6 @@ use Rattle.token.specs.Signed.{liftedBasis}
 -- The most rounds of a question.
 abbrev pub roundsMost : ℕ
 roundsMost = 64 * stepRounds
-
--- K is laid out, with what its atoms look at.
-abbrev pub Given : Computation → Shape → List ℕ → List ℕ → Type 0
-Given K x starts facts = Laid K x starts × Facts K x facts
 
 -- A computation is laid out, a formula stands at the front of q, is narrow under the sign s, and there is room for what is held.
 pub record Ready (s : Bool) (x : Shape) (q starts facts : List ℕ) (mw mb : ℕ) : Type 0 where

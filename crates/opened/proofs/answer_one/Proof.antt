@@ -2,7 +2,8 @@
 use mathlib.Core.Path.{refl}
 use borrow.Author.Needs.{needs}
 use Rattle.load.proofs.Loads.{no-larger}
-use Rattle.opening.proofs.Logs.{below, question, posed}
+use Rattle.question.proofs.Posed.{question, posed}
+use Rattle.opening.proofs.Logs.{below, good-at}
 use Rattle.opened.proofs.answer_one.Statement.{statement}
 use Rattle.opened.proofs.answer_one.Tie as tie
 
@@ -29,7 +30,7 @@ put-line-requires c κs =
     let p = c .before .before .before .before .before .before .before .before .before .before .before .before .before .before .before .before .pre in
     let o = p .1 .1 in
     let a = o .accepts in
-    (posed a _ (o .question) (o .is) _ (c .before .before .before .before .before .asked .ensures _ _ _ a (o .question) (o .is)) (c .before .before .before .before .before .before .before .before .lay .ensures .1 _ _ _ a) _ (p .0 .2), (p .0 .3, p .0 .4))
+    (posed _ (o .question) (good-at a _ (o .question) (o .is)) _ (c .before .before .before .before .before .asked .ensures _ _ _ a (o .question) (o .is)) (c .before .before .before .before .before .before .before .before .lay .ensures .1 _ _ _ a) _ (p .0 .2), (p .0 .3, p .0 .4))
 
 same-length : tie.Need-same-length
 same-length c = search needs
@@ -43,7 +44,7 @@ same-length-3 c = search needs
 returns : tie.Need-returns
 returns c = λ log o.
     let a = o .accepts in
-    c .before .before .before .before .before .before .put-line .ensures _ (o .question) (question a _ (o .question) (o .is) _ (c .before .before .before .before .before .before .before .before .before .before .before .before .asked .ensures _ _ _ a (o .question) (o .is)) (c .before .before .before .before .before .before .before .before .before .before .before .before .before .before .before .lay .ensures .1 _ _ _ a))
+    c .before .before .before .before .before .before .put-line .ensures _ (o .question) (question _ (o .question) (good-at a _ (o .question) (o .is)) _ (c .before .before .before .before .before .before .before .before .before .before .before .before .asked .ensures _ _ _ a (o .question) (o .is)) (c .before .before .before .before .before .before .before .before .before .before .before .before .before .before .before .lay .ensures .1 _ _ _ a))
 
 pub answer-one-spec : {M : Type 1} → statement M
 answer-one-spec =

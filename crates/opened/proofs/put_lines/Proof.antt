@@ -6,7 +6,8 @@ use native.Mathlib.Omega.{arith}
 use lib.ListN.{length, length-take, length-drop}
 use borrow.Rule.Slice.PartMut.{same-len-mid}
 use Rattle.load.proofs.Loads.{no-larger}
-use Rattle.opening.proofs.Logs.{question-there, question-count, posed}
+use Rattle.question.proofs.Posed.{posed}
+use Rattle.opening.proofs.Logs.{question-there, question-count, good-at}
 use Rattle.opened.proofs.Lines.{Printing, printing-none, printing-more, printing-all, line-short}
 use Rattle.opened.proofs.put_lines.Statement.{statement}
 use Rattle.opened.proofs.put_lines.Tie as tie
@@ -52,7 +53,7 @@ put-line-requires c κs =
     let a = p .accepts in
     let v = c .before .before .before .before .before .before .loop in
     let f = question-there (a .reading .questions) (v .i) (omega (arith, question-count a, c .before .before .before .before .if1 .taken)) in
-    (posed a _ (f .0) (f .1) _ (c .before .before .before .asked .ensures _ _ _ a (f .0) (f .1)) (p .laid) _ (omega (arith, v .inv .2)), (omega (arith, v .inv .3), simp (length-take, length-drop) (omega (arith, left (c .before)))))
+    (posed _ (f .0) (good-at a _ (f .0) (f .1)) _ (c .before .before .before .asked .ensures _ _ _ a (f .0) (f .1)) (p .laid) _ (omega (arith, v .inv .2)), (omega (arith, v .inv .3), simp (length-take, length-drop) (omega (arith, left (c .before)))))
 
 inside : (c : tie.After-slice-known2 Inv-loop μ-loop) → c .before .before .before .before .before .before .before .before .before .before .before .loop .end ≤ length (c .before .before .before .before .before .before .before .before .before .before .before .loop .out)
 inside c = omega (arith, left (c .before .before .before .before .before .before))

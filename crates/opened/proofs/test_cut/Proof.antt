@@ -2,7 +2,8 @@
 use mathlib.Core.Path.{refl, sym, _∙_}
 use borrow.Author.Needs.{needs}
 use Rattle.load.proofs.Loads.{no-larger}
-use Rattle.opening.proofs.Logs.{below, question, posed}
+use Rattle.question.proofs.Posed.{question, posed}
+use Rattle.opening.proofs.Logs.{below, good-at}
 use Rattle.opened.proofs.test_cut.Statement.{statement}
 use Rattle.opened.proofs.test_cut.Tie as tie
 
@@ -30,7 +31,7 @@ true-at-requires c κs =
     let o = p .1 .1 in
     let a = o .accepts in
     let l = c .before .before .before .before .before .before .before .lay .ensures in
-    (posed a _ (o .question) (o .is) _ (c .before .before .before .before .asked .ensures _ _ _ a (o .question) (o .is)) (l .1 _ _ _ a) _ (p .0 .3), (p .0 .2 ∙ sym (l .0), p .0 .4))
+    (posed _ (o .question) (good-at a _ (o .question) (o .is)) _ (c .before .before .before .before .asked .ensures _ _ _ a (o .question) (o .is)) (l .1 _ _ _ a) _ (p .0 .3), (p .0 .2 ∙ sym (l .0), p .0 .4))
 
 same-length : tie.Need-same-length
 same-length c = search needs
@@ -41,7 +42,7 @@ same-length-2 c = search needs
 returns : tie.Need-returns
 returns c = λ log o.
     let a = o .accepts in
-    c .before .before .before .before .true-at .ensures _ (o .question) (question a _ (o .question) (o .is) _ (c .before .before .before .before .before .before .before .before .before .asked .ensures _ _ _ a (o .question) (o .is)) (c .before .before .before .before .before .before .before .before .before .before .before .before .lay .ensures .1 _ _ _ a))
+    c .before .before .before .before .true-at .ensures _ (o .question) (question _ (o .question) (good-at a _ (o .question) (o .is)) _ (c .before .before .before .before .before .before .before .before .before .asked .ensures _ _ _ a (o .question) (o .is)) (c .before .before .before .before .before .before .before .before .before .before .before .before .lay .ensures .1 _ _ _ a))
 
 pub test-cut-spec : {M : Type 1} → statement M
 test-cut-spec =

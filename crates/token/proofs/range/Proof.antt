@@ -16,7 +16,8 @@ use Rattle.structure.specs.declared.Sets.{Sets}
 use Rattle.structure.specs.Marks.{Marked, Within}
 use Rattle.structure.proofs.Marks.{one-marked, one-within}
 use Rattle.cells.proofs.Parts.{word-at}
-use Rattle.token.specs.Contract.{Given, Ready, Made}
+use Rattle.token.specs.Contract.{Ready, Made}
+use Rattle.structure.specs.Laid.{Given}
 use Rattle.token.proofs.Atoms.{at-range, range-station}
 use Rattle.token.proofs.Operands as laws
 use borrow.Author.Needs.{needs}

@@ -8,7 +8,7 @@ use native.Mathlib.Numerals.{add-one}
 use lib.ListN.{length, take, drop, getD, length-append, length-drop}
 use lib.Seq.{take-all, take-at, drop-at, drop-cons, drop-drop, getD-drop}
 use Rattle.model.specs.Frames.{listOf}
-use Rattle.question.specs.Questions.{Indexed, Asks}
+use Rattle.frames.specs.Asks.{Indexed, Asks}
 
 -- The frame f at a place of a list, and what follows it.
 pub record Here (list : List ℕ) (at : ℕ) (f rest : List ℕ) : Type 0 where

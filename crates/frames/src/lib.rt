@@ -1,10 +1,10 @@
-// Frames of a frame list.
+// Frames of a frame list found, and the bytes of a question.
 use cells::wide;
 ghost use mathlib.Core.Path.{_≡_};
 ghost use mathlib.Core.List.{List, []};
 ghost use Prim.Native.Nat.{ℕ, _≤_, _<_};
 ghost use lib.ListN.{length, getD};
-ghost use Rattle.question.specs.Questions.{Indexed, Asks};
+ghost use Rattle.frames.specs.Asks.{Indexed, Asks};
 
 // The frame at an index of a frame list.
 fn frame_at(list: &[u8], index: usize) -> &[u8]

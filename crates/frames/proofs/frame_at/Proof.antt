@@ -2,9 +2,9 @@
 use Prim.Native.Nat.{_≤_, _-_}
 use native.Mathlib.Omega.{arith}
 use borrow.Author.Needs.{needs}
-use Rattle.question.proofs.Walks.{Passed, passed-none, passed-more, passed-all, reached}
-use Rattle.question.proofs.frames.frame_at.Statement.{statement}
-use Rattle.question.proofs.frames.frame_at.Tie as tie
+use Rattle.frames.proofs.Walks.{Passed, passed-none, passed-more, passed-all, reached}
+use Rattle.frames.proofs.frame_at.Statement.{statement}
+use Rattle.frames.proofs.frame_at.Tie as tie
 
 abbrev Inv-loop : tie.InvT-loop
 Inv-loop list index at₀ i₀ at i = (i ≤ index) × Passed list index at i

@@ -4,9 +4,9 @@ use native.Mathlib.Omega.{arith}
 use lib.ListN.{length}
 use lib.Seq.{length-take-le}
 use borrow.Author.Needs.{needs}
-use Rattle.question.proofs.Walks.{asked-frame, frame-tail}
-use Rattle.question.proofs.frames.question_at.Statement.{statement}
-use Rattle.question.proofs.frames.question_at.Tie as tie
+use Rattle.frames.proofs.Walks.{asked-frame, frame-tail}
+use Rattle.frames.proofs.question_at.Statement.{statement}
+use Rattle.frames.proofs.question_at.Tie as tie
 
 slice-aggregate-frame-at : tie.Need-slice-aggregate-frame-at
 slice-aggregate-frame-at c = sym (length-take-le _ _ (c .before .before .pre .0))
