@@ -15,7 +15,7 @@ use Rattle.structure.specs.Layout.{cutsAt, structureAt, standing}
 use Rattle.structure.proofs.Places.{cells-are}
 use Rattle.lattice.proofs.Lists.{All, all-head, all-tail}
 use Rattle.lattice.proofs.Sorting.{sort-tops}
-use Rattle.listing.specs.Cuts.{added}
+use Rattle.cuts.specs.Cuts.{added}
 
 next-place : (c i : ℕ) (l : List ℕ) → drop c (drop (i * c) l) ≡ drop ((i + 1) * c) l
 next-place c i l = let d : i * c + c ≡ (i + 1) * c = omega (arith, add-mul i 1 c) in drop-drop c (i * c) l ∙ ap (λ (m : ℕ). drop m l) d

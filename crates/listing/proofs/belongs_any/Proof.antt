@@ -6,7 +6,7 @@ use native.Mathlib.Omega.{arith}
 use lib.ListN.{take, drop}
 use Rattle.model.specs.Structure.{belongsAny}
 use Rattle.structure.specs.Layout.{standing}
-use Rattle.listing.proofs.Cuts.{within}
+use Rattle.cuts.proofs.Cuts.{within}
 use Rattle.listing.proofs.Standing as stands
 use borrow.Author.Needs.{needs}
 use Rattle.listing.proofs.belongs_any.Statement.{statement}

@@ -10,7 +10,7 @@ use Rattle.model.specs.Answer.{tops, sort}
 use Rattle.lattice.specs.Ascending.{RowsAscend}
 use Rattle.lattice.proofs.Lists.{All}
 use Rattle.structure.specs.Layout.{cutsAt, standing}
-use Rattle.listing.proofs.Cuts.{within}
+use Rattle.cuts.proofs.Cuts.{within}
 use Rattle.listing.proofs.Standing as stands
 use borrow.Author.Needs.{needs}
 use Rattle.listing.proofs.list_cuts.Statement.{statement}

@@ -1,4 +1,4 @@
--- `listing::place` meets its contract: the cut does not stand before those below the i-th.
+-- `cuts::place` meets its contract: the cut does not stand before those below the i-th.
 use mathlib.Core.Path.{_≡_, _∙_}
 use Prim.Native.Nat.{_≤_, _-_, _*_}
 use native.Mathlib.Omega.{arith}
@@ -6,11 +6,11 @@ use mathlib.Core.List.{_++_}
 use lib.ListN.{take, drop}
 use Rattle.model.specs.Answer.{insert}
 use Rattle.structure.specs.Layout.{cutsAt}
-use Rattle.listing.proofs.Cuts.{within}
-use Rattle.listing.proofs.Adding as adding
+use Rattle.cuts.proofs.Cuts.{within}
+use Rattle.cuts.proofs.Adding as adding
 use borrow.Author.Needs.{needs}
-use Rattle.listing.proofs.place.Statement.{statement}
-use Rattle.listing.proofs.place.Tie as tie
+use Rattle.cuts.proofs.place.Statement.{statement}
+use Rattle.cuts.proofs.place.Tie as tie
 
 abbrev Inv-loop : tie.InvT-loop
 Inv-loop cut cuts count n i₀ i = (i ≤ count) × (insert (take n cut) (cutsAt n count cuts) ≡ cutsAt n i cuts ++ insert (take n cut) (cutsAt n (count - i) (drop (i * n) cuts)))

@@ -1,14 +1,14 @@
--- `listing::precedes` meets its contract: the stations below j are equal, and what is left to test are the others.
+-- `cuts::precedes` meets its contract: the stations below j are equal, and what is left to test are the others.
 use mathlib.Core.Path.{_≡_, refl, sym, _∙_}
 use Prim.Native.Nat.{_≤_, _-_}
 use native.Mathlib.Omega.{arith}
 use lib.ListN.{take, drop}
 use lib.Seq.{slice}
 use Rattle.model.specs.Answer.{precedes}
-use Rattle.listing.proofs.Order as order
+use Rattle.cuts.proofs.Order as order
 use borrow.Author.Needs.{needs}
-use Rattle.listing.proofs.precedes.Statement.{statement}
-use Rattle.listing.proofs.precedes.Tie as tie
+use Rattle.cuts.proofs.precedes.Statement.{statement}
+use Rattle.cuts.proofs.precedes.Tie as tie
 
 abbrev Inv-loop : tie.InvT-loop
 Inv-loop cut cuts at n j₀ j = (j ≤ n) × (precedes (take n cut) (take n (drop at cuts)) ≡ precedes (slice j n cut) (slice j n (drop at cuts)))

@@ -1,15 +1,15 @@
--- `listing::in_one` meets its contract: the cuts before the i-th do not contain the cut.
+-- `cuts::in_one` meets its contract: the cuts before the i-th do not contain the cut.
 use mathlib.Core.Path.{_≡_, sym, ap, _∙_}
 use Prim.Native.Nat.{_≤_, _-_, _*_}
 use native.Mathlib.Omega.{arith}
 use lib.ListN.{take, drop}
 use Rattle.model.specs.Cut.{insideAny}
 use Rattle.structure.specs.Layout.{cutsAt}
-use Rattle.listing.proofs.Cuts.{cuts-all, within}
-use Rattle.listing.proofs.Adding as adding
+use Rattle.cuts.proofs.Cuts.{cuts-all, within}
+use Rattle.cuts.proofs.Adding as adding
 use borrow.Author.Needs.{needs}
-use Rattle.listing.proofs.in_one.Statement.{statement}
-use Rattle.listing.proofs.in_one.Tie as tie
+use Rattle.cuts.proofs.in_one.Statement.{statement}
+use Rattle.cuts.proofs.in_one.Tie as tie
 
 abbrev Inv-loop : tie.InvT-loop
 Inv-loop cut cuts count n i₀ i = (i ≤ count) × (insideAny (take n cut) (cutsAt n count cuts) ≡ insideAny (take n cut) (cutsAt n (count - i) (drop (i * n) cuts)))

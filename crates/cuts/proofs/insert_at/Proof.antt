@@ -1,11 +1,11 @@
--- `listing::insert_at` meets its contract: the cuts from the place on have moved up by one cut.
+-- `cuts::insert_at` meets its contract: the cuts from the place on have moved up by one cut.
 use Prim.Native.Nat.{_+_}
 use native.Mathlib.Nat.{mul-le-mul-right}
 use native.Mathlib.Omega.{arith}
-use Rattle.listing.proofs.Cuts.{within, cuts-insert}
+use Rattle.cuts.proofs.Cuts.{within, cuts-insert}
 use borrow.Author.Needs.{needs}
-use Rattle.listing.proofs.insert_at.Statement.{statement}
-use Rattle.listing.proofs.insert_at.Tie as tie
+use Rattle.cuts.proofs.insert_at.Statement.{statement}
+use Rattle.cuts.proofs.insert_at.Tie as tie
 
 mul-shift-up : tie.Need-mul-shift-up
 mul-shift-up c =

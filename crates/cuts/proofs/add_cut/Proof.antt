@@ -1,14 +1,14 @@
--- `listing::add_cut` meets its contract: nothing new, or the cut in its place among those that it does not contain.
+-- `cuts::add_cut` meets its contract: nothing new, or the cut in its place among those that it does not contain.
 use Prim.Native.Nat.{_+_, _≤_}
 use native.Mathlib.Nat.{mul-le-mul-right, le-mul-of-pos-right}
 use native.Mathlib.Omega.{arith}
 use lib.ListN.{take}
 use Rattle.structure.specs.Layout.{cutsAt}
-use Rattle.listing.proofs.Cuts.{within}
-use Rattle.listing.proofs.Adding.{adds-nothing, adds-one}
+use Rattle.cuts.proofs.Cuts.{within}
+use Rattle.cuts.proofs.Adding.{adds-nothing, adds-one}
 use borrow.Author.Needs.{needs}
-use Rattle.listing.proofs.add_cut.Statement.{statement}
-use Rattle.listing.proofs.add_cut.Tie as tie
+use Rattle.cuts.proofs.add_cut.Statement.{statement}
+use Rattle.cuts.proofs.add_cut.Tie as tie
 
 in-one-requires : tie.Need-in-one-requires
 in-one-requires c κs =

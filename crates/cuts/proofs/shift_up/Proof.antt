@@ -1,14 +1,14 @@
--- `listing::shift_up` meets its contract: the cells from k on have moved, and those before k are as they were.
+-- `cuts::shift_up` meets its contract: the cells from k on have moved, and those before k are as they were.
 use mathlib.Core.Path.{_≡_, refl}
 use Prim.Native.Nat.{_≤_, _-_, _+_}
 use native.Mathlib.Omega.{arith}
 use lib.ListN.{length, take, length-set}
 use lib.Seq.{slice, slice-empty}
 use mathlib.Core.Path.{sym, _∙_}
-use Rattle.listing.proofs.Moves as moves
+use Rattle.cuts.proofs.Moves as moves
 use borrow.Author.Needs.{needs}
-use Rattle.listing.proofs.shift_up.Statement.{statement}
-use Rattle.listing.proofs.shift_up.Tie as tie
+use Rattle.cuts.proofs.shift_up.Statement.{statement}
+use Rattle.cuts.proofs.shift_up.Tie as tie
 
 abbrev Inv-loop : tie.InvT-loop
 Inv-loop cells₀ from end n k₀ cells k =

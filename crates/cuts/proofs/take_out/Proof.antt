@@ -1,4 +1,4 @@
--- `listing::take_out` meets its contract: of the cuts below the i-th those that stay stand at the front, and those from it on are as they were.
+-- `cuts::take_out` meets its contract: of the cuts below the i-th those that stay stand at the front, and those from it on are as they were.
 use mathlib.Core.Path.{_≡_, refl, ap, _∙_}
 use mathlib.Core.Logic.{⊎-elim, inr}
 use Prim.Native.Nat.{_≤_, _-_, _*_}
@@ -7,11 +7,11 @@ use native.Mathlib.Omega.{arith}
 use lib.ListN.{length, take, drop}
 use Rattle.model.specs.Answer.{notInside}
 use Rattle.structure.specs.Layout.{cutsAt}
-use Rattle.listing.proofs.Cuts.{within}
-use Rattle.listing.proofs.Adding as adding
+use Rattle.cuts.proofs.Cuts.{within}
+use Rattle.cuts.proofs.Adding as adding
 use borrow.Author.Needs.{needs}
-use Rattle.listing.proofs.take_out.Statement.{statement}
-use Rattle.listing.proofs.take_out.Tie as tie
+use Rattle.cuts.proofs.take_out.Statement.{statement}
+use Rattle.cuts.proofs.take_out.Tie as tie
 
 abbrev Inv-loop : tie.InvT-loop
 Inv-loop cut cuts₀ count n left₀ i₀ cuts left i =

@@ -13,8 +13,8 @@ use Rattle.model.specs.Answer.{notInside, precedes, insert}
 use Rattle.structure.specs.Layout.{cutsAt}
 use Rattle.cells.proofs.Parts.{paste-behind}
 use Rattle.structure.proofs.Listed.{cuts-more}
-use Rattle.listing.specs.Cuts.{added}
-use Rattle.listing.proofs.Cuts.{cuts-all, cuts-from, cuts-none, cuts-put}
+use Rattle.cuts.specs.Cuts.{added}
+use Rattle.cuts.proofs.Cuts.{cuts-all, cuts-from, cuts-none, cuts-put}
 
 notInside-snoc : (c d : Cut) (l : List Cut) → notInside c (l ++ (d ∷ [])) ≡ cond (inside d c) (notInside c l) (notInside c l ++ (d ∷ []))
 unfolding notInside

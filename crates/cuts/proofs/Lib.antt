@@ -1,0 +1,5 @@
+-- Laws that the proofs share, and those that other crates use.
+pub mod Cuts
+mod Moves
+mod Order
+mod Adding
