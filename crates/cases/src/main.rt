@@ -1,7 +1,5 @@
 // Runs the operations and the program on the cases of standard input, and prints what each hands back and leaves in what was lent to it.
 // A case's letter says what is run: R for Read, W for Write, A for Answer, H for Holds, P for the program, and any other the bases.
-mod bases;
-
 use model::HoldsAnswer;
 use model::LineAnswer;
 use model::Log;

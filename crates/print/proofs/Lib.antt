@@ -1,1 +1,1 @@
-pub mod Printed
+mod Printed

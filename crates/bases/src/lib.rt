@@ -1,4 +1,4 @@
-// The basis of each question of a log: for each structure its least cut, its greatest cut and its bars.
+// Prints, for the test program, the basis of each question of a log: for each structure its least cut, its greatest cut and its bars.
 use model::Log;
 use structure::Shape;
 ghost use mathlib.Core.Path.{_≡_};
@@ -105,7 +105,7 @@ fn print_loaded(list: &[u8], store: &[u8], loaded: load::Loaded)
 }
 
 // The bases of a log, or its refusal.
-pub(crate) fn print_case(log: &[u8]) {
+pub fn print_case(log: &[u8]) {
     io::write_all(1, b"\n");
     let mut list = [0u8; Log::LIST];
     let mut store = [0u8; Log::STORE];

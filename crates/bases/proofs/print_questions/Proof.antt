@@ -1,13 +1,14 @@
--- `cases::bases::print_questions`: each question is found, and worked out over the computation that was laid out. Assumes nothing.
+-- `bases::print_questions`: each question is found, and worked out over the computation that was laid out. Assumes nothing.
 use mathlib.Core.Path.{_≡_, refl, _∙_}
 use Prim.Native.Nat.{_≤_, _-_}
 use native.Mathlib.Omega.{arith}
 use lib.ListN.{length}
 use Rattle.load.proofs.Loads.{no-larger}
-use Rattle.opening.proofs.Logs.{question-there, question-count, posed}
+use Rattle.question.proofs.Posed.{posed}
+use Rattle.opening.proofs.Logs.{question-there, question-count, good-at}
 use borrow.Author.Needs.{needs}
-use Rattle.cases.proofs.bases.print_questions.Statement.{statement}
-use Rattle.cases.proofs.bases.print_questions.Tie as tie
+use Rattle.bases.proofs.print_questions.Statement.{statement}
+use Rattle.bases.proofs.print_questions.Tie as tie
 
 abbrev Inv-loop : tie.InvT-loop
 Inv-loop list loaded x starts facts ws₀ bs₀ s i₀ ws bs i = (i ≤ loaded .state .questions) × (length ws ≡ length ws₀) × (length bs ≡ length bs₀)
@@ -27,7 +28,7 @@ print-basis-requires c κs =
     let a = p .1 .accepts in
     let v = c .before .before .before .before .before .loop in
     let f = question-there (a .reading .questions) (v .i) (omega (arith, question-count a, c .before .before .before .if1 .taken)) in
-    (posed a _ (f .0) (f .1) _ (c .before .before .asked .ensures _ _ _ a (f .0) (f .1)) (p .1 .laid) _ (omega (arith, v .inv .1, p .0 .1)), omega (arith, v .inv .2, p .0 .2))
+    (posed _ (f .0) (good-at a _ (f .0) (f .1)) _ (c .before .before .asked .ensures _ _ _ a (f .0) (f .1)) (p .1 .laid) _ (omega (arith, v .inv .1, p .0 .1)), omega (arith, v .inv .2, p .0 .2))
 
 add-i : tie.Need-add-i Inv-loop μ-loop
 add-i c = omega (arith, c .before .before .before .before .before .before .before .before .before .before .before .before .before .before .before .before .before .pre .1 .accepts .bounded .few-questions, c .before .before .before .before .before .before .before .before .if1 .taken)

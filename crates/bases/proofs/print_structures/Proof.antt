@@ -1,11 +1,11 @@
--- `cases::bases::print_structures`: each structure stands in the workspace, and its bars in the bar space. Assumes nothing.
+-- `bases::print_structures`: each structure stands in the workspace, and its bars in the bar space. Assumes nothing.
 use Prim.Native.Nat.{_+_, _*_, _≤_, _-_}
 use native.Mathlib.Omega.{arith}
 use Rattle.structure.proofs.Places.{next-fits}
 use Rattle.steps.proofs.Parts.{size-small}
 use borrow.Author.Needs.{needs}
-use Rattle.cases.proofs.bases.print_structures.Statement.{statement}
-use Rattle.cases.proofs.bases.print_structures.Tie as tie
+use Rattle.bases.proofs.print_structures.Statement.{statement}
+use Rattle.bases.proofs.print_structures.Tie as tie
 
 abbrev Inv-loop : tie.InvT-loop
 Inv-loop ws bs count x n e size slot i₀ i = i ≤ count

@@ -1,7 +1,7 @@
--- `cases::bases::print_basis`: there is room for the basis, and it has at most 16 structures. Assumes nothing.
+-- `bases::print_basis`: there is room for the basis, and it has at most 16 structures. Assumes nothing.
 use borrow.Author.Needs.{needs}
-use Rattle.cases.proofs.bases.print_basis.Statement.{statement}
-use Rattle.cases.proofs.bases.print_basis.Tie as tie
+use Rattle.bases.proofs.print_basis.Statement.{statement}
+use Rattle.bases.proofs.print_basis.Tie as tie
 
 work-out-requires : tie.Need-work-out-requires
 work-out-requires c κs = c .before .before .before .before .before .before .before .pre

@@ -1,10 +1,9 @@
--- `cases::bases::print_case`: a log that is accepted is as loading says. Assumes nothing.
+-- `bases::print_case`: a log that is accepted is as loading says. Assumes nothing.
 use native.Mathlib.Omega.{arith}
-use Rattle.load.proofs.Loads.{no-larger}
-use Rattle.print.proofs.Printed.{to-accepts}
+use Rattle.load.proofs.Loads.{to-accepts, no-larger}
 use borrow.Author.Needs.{needs}
-use Rattle.cases.proofs.bases.print_case.Statement.{statement}
-use Rattle.cases.proofs.bases.print_case.Tie as tie
+use Rattle.bases.proofs.print_case.Statement.{statement}
+use Rattle.bases.proofs.print_case.Tie as tie
 
 slice-aggregate-write-all : tie.Need-slice-aggregate-write-all
 slice-aggregate-write-all c = search needs
@@ -48,7 +47,7 @@ slice-aggregate-print-loaded-2 c = search needs
 print-loaded-requires : tie.Need-print-loaded-requires
 print-loaded-requires c κs =
     let l = c .before .before .before .before .before .before .load in
-    let a = to-accepts _ _ (c .before .before .before .before .before .before .before .before .before .limits .ensures) _ _ _ _ _ _ (l .ensures .0) (c .before .before .enum-told .given .1) in
+    let a = rw (c .before .before .before .before .before .before .before .before .before .limits .ensures) at (to-accepts _ _ _ _ _ _ _ (l .ensures .0) (c .before .before .enum-told .given .1)) in
     ((omega (arith, a .short, l .kept), omega (arith, l .kept)), (_, a))
 
 returns : tie.Need-returns

@@ -1,9 +1,9 @@
--- `cases::bases::print_loaded`: the log is laid out once, and all its questions are worked out over that. Assumes nothing.
+-- `bases::print_loaded`: the log is laid out once, and all its questions are worked out over that. Assumes nothing.
 use mathlib.Core.Path.{refl}
 use Rattle.load.proofs.Loads.{no-larger}
 use borrow.Author.Needs.{needs}
-use Rattle.cases.proofs.bases.print_loaded.Statement.{statement}
-use Rattle.cases.proofs.bases.print_loaded.Tie as tie
+use Rattle.bases.proofs.print_loaded.Statement.{statement}
+use Rattle.bases.proofs.print_loaded.Tie as tie
 
 slice-aggregate-lay : tie.Need-slice-aggregate-lay
 slice-aggregate-lay c = search needs

@@ -1,11 +1,11 @@
--- `cases::bases::print_bars`: each of the 16 slots stands in the bar space. Assumes nothing.
+-- `bases::print_bars`: each of the 16 slots stands in the bar space. Assumes nothing.
 use Prim.Native.Nat.{_+_, _*_, _≤_, _-_}
 use native.Mathlib.Omega.{arith}
 use lib.ListN.{length}
 use Rattle.structure.proofs.Places.{next-fits}
 use borrow.Author.Needs.{needs}
-use Rattle.cases.proofs.bases.print_bars.Statement.{statement}
-use Rattle.cases.proofs.bases.print_bars.Tie as tie
+use Rattle.bases.proofs.print_bars.Statement.{statement}
+use Rattle.bases.proofs.print_bars.Tie as tie
 
 abbrev Inv-loop : tie.InvT-loop
 Inv-loop bs at n i₀ t6 i = i ≤ 16
