@@ -1,5 +1,5 @@
 -- Laws of join and of the test for containment, station by station.
-use mathlib.Core.Path.{_≡_, refl, sym, ap, _∙_}
+use mathlib.Core.Path.{_≡_, refl, sym, ap}
 use Prim.Native.Nat.{ℕ, zero, suc, _+_, _≤_, _<_, max}
 use native.Mathlib.Nat.{suc-inj, suc-ne-zero, max-comm, zero-max}
 use native.Mathlib.Numerals.{add-one}
