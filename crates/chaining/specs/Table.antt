@@ -15,7 +15,7 @@ use Rattle.lattice.specs.Chains.{Entry}
 use Rattle.lattice.specs.Chains.Entry.{lost, moved}
 use Rattle.lattice.proofs.Bases.{Good}
 use Rattle.slots.specs.Slots.{number, Small, Coded, Slots}
-use Rattle.rounds.specs.Pair.{Clocks}
+use Rattle.slots.specs.Pair.{Clocks}
 use Rattle.picking.specs.Formed.{Picks}
 use Rattle.picking.specs.Rows.{rowOf}
 

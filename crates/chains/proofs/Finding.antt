@@ -21,7 +21,7 @@ use Rattle.structure.specs.declared.Shape.{Shape}
 use Rattle.cells.proofs.Parts.{part-same}
 use Rattle.slots.specs.Slots.{number, Small, Says, Slots}
 use Rattle.numbering.proofs.Numbers.{number-le, says-none, says-some, join-says}
-use Rattle.round.specs.Said.{Above}
+use Rattle.slots.specs.Pair.{Above}
 use Rattle.picking.specs.Formed.{Picks}
 use Rattle.picking.specs.Rows.{rowOf}
 use Rattle.picking.proofs.Reading.{slot-row}

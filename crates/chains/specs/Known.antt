@@ -7,8 +7,7 @@ use Rattle.lattice.specs.OfStation.{OfOwnRows}
 use Rattle.lattice.proofs.Bases.{Good}
 use Rattle.structure.specs.declared.Shape.{Shape}
 use Rattle.slots.specs.Slots.{Slots, Rows}
-use Rattle.round.specs.Said.{Both}
-use Rattle.rounds.specs.Pair.{Clocks}
+use Rattle.slots.specs.Pair.{Both, Clocks}
 use Rattle.picking.specs.Formed.{Formed}
 
 -- The right set is of station s and has its rows in the workspace, from a place on; the left one stands in a table.

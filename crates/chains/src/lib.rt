@@ -12,7 +12,7 @@ ghost use Rattle.model.specs.Structure.{Structure, row};
 ghost use Rattle.lattice.specs.Chains.{firstRound};
 ghost use Rattle.structure.specs.Shaped.{Shaped};
 ghost use Rattle.slots.specs.Slots.{number, Small, Says, Slots};
-ghost use Rattle.rounds.specs.Pair.{Intersected};
+ghost use Rattle.slots.specs.Pair.{Intersected};
 ghost use Rattle.picking.specs.Rows.{rowOf};
 ghost use Rattle.chains.specs.Known.{RightKnown, LeftKnown};
 

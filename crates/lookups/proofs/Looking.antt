@@ -20,7 +20,7 @@ use Rattle.lattice.proofs.Consistency.{same-cut}
 use Rattle.lattice.proofs.Shortcuts.{came}
 use Rattle.slots.specs.Slots.{Small, Coded, Says}
 use Rattle.numbering.proofs.Numbers.{says-none, says-some, coded-same, cells-same}
-use Rattle.round.specs.Said.{Above}
+use Rattle.slots.specs.Pair.{Above}
 use Rattle.picking.specs.Formed.{Picks}
 use Rattle.picking.specs.Rows.{rowOf}
 use Rattle.chaining.specs.Table.{Chain, chainOf, roundsOf, sought, Stands, Reaches, Comes, Chained}

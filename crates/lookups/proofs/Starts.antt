@@ -18,7 +18,7 @@ use Rattle.lattice.specs.OfStation.{ownRow, OfOwnRows}
 use Rattle.lattice.specs.Chains.{Entry, entries, lookup}
 use Rattle.structure.specs.Layout.{decoded}
 use Rattle.slots.specs.Slots.{number, Small, Coded, Says, Offsets}
-use Rattle.round.specs.Said.{Above}
+use Rattle.slots.specs.Pair.{Above}
 use Rattle.picking.specs.Formed.{Picks}
 use Rattle.picking.specs.Rows.{rowOf}
 use Rattle.picking.proofs.Reading.{slot-row, row-new, row-old}

@@ -12,8 +12,7 @@ use Rattle.model.specs.Basis.{Outcome, start}
 use Rattle.lattice.specs.OfStation.{ownRow, OfOwnRows}
 use Rattle.lattice.specs.Chains.{entries, lookup}
 use Rattle.slots.specs.Slots.{Small, Says, Slots}
-use Rattle.round.specs.Said.{Above}
-use Rattle.rounds.specs.Pair.{Clocks}
+use Rattle.slots.specs.Pair.{Above, Clocks}
 use Rattle.picking.specs.Formed.{Picks}
 use Rattle.picking.specs.Rows.{rowOf}
 use Rattle.chaining.specs.Table.{chainOf, Chained}

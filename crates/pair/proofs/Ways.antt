@@ -14,8 +14,8 @@ use Rattle.cells.proofs.Parts.{put-end}
 use Rattle.structure.specs.declared.Shape.{Shape}
 use Rattle.structure.proofs.Places.{one-more, next-fits}
 use Rattle.slots.specs.Slots.{Small, Slots, Rows, Offsets}
-use Rattle.round.specs.Said.{Both}
-use Rattle.rounds.specs.Pair.{Known, Intersected}
+use Rattle.slots.specs.Pair.{Both, Intersected}
+use Rattle.rounds.specs.Pair.{Known}
 use Rattle.picking.specs.Formed.{Formed}
 use Rattle.chains.specs.Known.{RightKnown, LeftKnown}
 use Rattle.pair.specs.declared.Pair.{Pair}

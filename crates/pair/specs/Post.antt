@@ -11,7 +11,7 @@ use Rattle.structure.specs.declared.Shape.{Shape}
 use Rattle.structure.specs.Layout.{structureAt, standing, barsAt}
 use Rattle.structure.specs.Marks.{Mark}
 use Rattle.slots.specs.Slots.{Small, Slots}
-use Rattle.rounds.specs.Pair.{Clocks, Intersected}
+use Rattle.slots.specs.Pair.{Clocks, Intersected}
 use Rattle.pair.specs.declared.Pair.{Pair}
 
 -- Structure i of those that stand in w and b, and k of them from structure i on.

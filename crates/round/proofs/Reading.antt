@@ -17,7 +17,8 @@ use Rattle.lattice.proofs.Bases.{In, Good}
 use Rattle.lattice.proofs.Shortcuts.{raise-row, raised, came, settle, afterRight, afterLeft, unlessSame, nextLeft}
 use Rattle.slots.specs.Slots.{Small, Coded, Says}
 use Rattle.numbering.proofs.Numbers.{says-none, says-some, coded-same, cells-same}
-use Rattle.round.specs.Said.{Above, Both, reading, Answers}
+use Rattle.round.specs.Said.{reading, Answers}
+use Rattle.slots.specs.Pair.{Above, Both}
 use Rattle.round.specs.declared.Round.the-variants.{Raised, Lost}
 use Rattle.round.specs.declared.RoundResult.{RoundResult}
 

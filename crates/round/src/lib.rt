@@ -10,7 +10,8 @@ ghost use Rattle.model.specs.Structure.{Structure, row, raise};
 ghost use Rattle.lattice.proofs.Bases.{In, Good};
 ghost use Rattle.lattice.proofs.Shortcuts.{afterLeft, nextLeft};
 ghost use Rattle.slots.specs.Slots.{number, Small, Coded, Says, Slots};
-ghost use Rattle.round.specs.Said.{Above, Both, Answers};
+ghost use Rattle.round.specs.Said.{Answers};
+ghost use Rattle.slots.specs.Pair.{Above, Both};
 
 // How a round ended.
 pub enum Round {

@@ -12,7 +12,8 @@ ghost use Rattle.model.specs.Structure.{Structure};
 ghost use Rattle.slots.specs.Slots.{Small, Offsets};
 ghost use Rattle.structure.specs.Layout.{decoded};
 ghost use Rattle.start.specs.Ended.{Reached};
-ghost use Rattle.rounds.specs.Pair.{Known, Intersected};
+ghost use Rattle.rounds.specs.Pair.{Known};
+ghost use Rattle.slots.specs.Pair.{Intersected};
 
 // The row of a start: its cut, or none.
 fn put_start(ws: &mut [u8], at: usize, n: usize, code: &[u8; 16], r: Start)

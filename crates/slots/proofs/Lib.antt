@@ -1,3 +1,5 @@
 -- Laws that the proofs share.
 mod Packing
 mod Rising
+mod Starts
+pub mod Turned

@@ -18,8 +18,9 @@ use Rattle.lattice.proofs.Shortcuts.{came, later, afterLeft, nextLeft, quickOn,
 use Rattle.structure.specs.Layout.{decoded}
 use Rattle.structure.proofs.Rows.{is-none, first-at}
 use Rattle.slots.specs.Slots.{number, Coded}
-use Rattle.round.specs.Said.{Both, reading, Answers}
-use Rattle.start.specs.Ended.{Clocks, Reached, Ended}
+use Rattle.round.specs.Said.{reading, Answers}
+use Rattle.slots.specs.Pair.{Both, Clocks}
+use Rattle.start.specs.Ended.{Reached, Ended}
 use Rattle.start.specs.declared.Start.{Start}
 use Rattle.round.specs.declared.Round.the-variants as round
 use Rattle.round.specs.declared.RoundResult.{RoundResult}

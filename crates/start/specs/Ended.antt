@@ -4,16 +4,12 @@ use Prim.Native.Nat.{ℕ}
 use mathlib.Core.List.{List}
 use mathlib.Core.Option.{Option, none, some}
 use Rattle.model.specs.Cut.{Cut}
-use Rattle.model.specs.Computation.{Computation, clock}
+use Rattle.model.specs.Computation.{Computation}
 use Rattle.model.specs.Basis as rule
-use Rattle.slots.specs.Slots.{Coded, Slots}
+use Rattle.slots.specs.Slots.{Coded}
 use Rattle.start.specs.declared.Outcome.{Outcome}
 use Rattle.start.specs.declared.Outcome.the-variants as outcome
 use Rattle.start.specs.declared.Start.{Start}
-
--- The starts of a computation, the empty cut and each event's clock, as a table.
-abbrev pub Clocks : Computation → List ℕ → Type 0
-Clocks K first = Slots K (λ j k. some (clock K j k)) first
 
 -- What a start came to.
 unfoldable pub Reached : Computation → Outcome → List ℕ → Option Cut → Type 0

@@ -13,8 +13,8 @@ ghost use Rattle.model.specs.Basis.{run};
 ghost use Rattle.lattice.proofs.Bases.{In};
 ghost use Rattle.lattice.proofs.Shortcuts.{later, quickOn};
 ghost use Rattle.slots.specs.Slots.{number, Coded};
-ghost use Rattle.round.specs.Said.{Both};
-ghost use Rattle.start.specs.Ended.{Clocks, Ended};
+ghost use Rattle.slots.specs.Pair.{Both, Clocks};
+ghost use Rattle.start.specs.Ended.{Ended};
 
 // How a start ended.
 pub enum Outcome {

@@ -6,7 +6,7 @@ use mathlib.Core.List.{List}
 use lib.ListN.{length, take, drop, length-replicate}
 use lib.Seq.{take-at, drop-at, length-take-le}
 use Rattle.cells.proofs.Parts.{put-end}
-use Rattle.rounds.specs.Pair.{Intersected}
+use Rattle.slots.specs.Pair.{Intersected}
 use Rattle.chaining.proofs.Telling.{picks-kept}
 use Rattle.chains.proofs.Finding.{right-given, right-found, low-none}
 use borrow.Author.Needs.{needs}

@@ -5,7 +5,7 @@ use native.Mathlib.Numerals.{add-one}
 use native.Mathlib.Omega.{arith}
 use lib.ListN.{length}
 use Rattle.structure.proofs.Places.{row-fits}
-use Rattle.rounds.proofs.Turned as laws
+use Rattle.slots.proofs.Turned as laws
 use Rattle.picking.proofs.Forms.{before-is}
 use Rattle.lookups.proofs.Starts.{Begun, one-start}
 use borrow.Author.Needs.{needs}

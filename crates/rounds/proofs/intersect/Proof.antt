@@ -6,7 +6,7 @@ use native.Mathlib.Omega.{arith}
 use lib.ListN.{length}
 use Rattle.structure.proofs.Places.{row-fits}
 use Rattle.rounds.specs.Pair.{Known}
-use Rattle.rounds.proofs.Turned as laws
+use Rattle.slots.proofs.Turned as laws
 use borrow.Author.Needs.{needs}
 use Rattle.rounds.proofs.intersect.Statement.{statement}
 use Rattle.rounds.proofs.intersect.Tie as tie

@@ -10,7 +10,7 @@ use Rattle.model.specs.Structure.{Structure}
 use Rattle.lattice.proofs.Bases.{In}
 use Rattle.lattice.proofs.Shortcuts.{later, quickOn}
 use Rattle.slots.specs.Slots.{Coded}
-use Rattle.round.specs.Said.{Both}
+use Rattle.slots.specs.Pair.{Both}
 use Rattle.start.proofs.Turns as turns
 use borrow.Author.Needs.{needs}
 use Rattle.start.proofs.more_rounds.Statement.{statement}

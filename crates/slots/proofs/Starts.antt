@@ -17,8 +17,8 @@ use Rattle.lattice.proofs.Sums.{sum-append}
 use Rattle.lattice.proofs.Shape.{same-lengths}
 use Rattle.structure.specs.Layout.{decoded, rowsAt, stationsAt}
 use Rattle.structure.proofs.Places.{rows-add, length-rows}
 use Rattle.slots.specs.Slots.{number}
-use Rattle.rounds.specs.Pair.{Intersected}
+use Rattle.slots.specs.Pair.{Intersected}
 
 module _ {A : Type 0} where
   -- The lists of a list, in one.

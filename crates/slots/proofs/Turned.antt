@@ -17,9 +17,9 @@ use Rattle.lattice.proofs.Sums.{sum-snoc}
 use Rattle.structure.specs.Layout.{decoded, rowsAt}
 use Rattle.structure.proofs.Places.{rows-add}
 use Rattle.structure.proofs.Standing.{rows-same}
 use Rattle.slots.specs.Slots.{number}
-use Rattle.rounds.specs.Pair.{Intersected}
-use Rattle.rounds.proofs.Starts.{clocks, length-clocks, start-at, intersected}
+use Rattle.slots.specs.Pair.{Intersected}
+use Rattle.slots.proofs.Starts.{clocks, length-clocks, start-at, intersected}
 
 -- P is what is known of a computation and a pair of its structures; a start is counted with at most `most` rounds.
 module _ (n e most : ℕ) (P : Computation → Structure → Structure → Type 0) where
