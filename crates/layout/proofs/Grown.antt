@@ -11,7 +11,7 @@ use Rattle.model.specs.Frames.{word}
 use Rattle.model.specs.Lists.{sum, total}
 use Rattle.table.specs.Table.{slot}
 use Rattle.layout.specs.Rows.{inTurn, clockIn, clocksIn, startsIn, valuesOf, valuesIn}
-use Rattle.layout.proofs.Totals.{sum-next}
+use Rattle.offsets.proofs.Totals.{sum-next}
 
 pub none-yet : (d : List ℕ) (at : ℕ) → take (at + 0) d ≡ take at d ++ []
 none-yet d at = rw (add-zero at, append-nil (take at d))

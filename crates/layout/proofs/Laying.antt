@@ -19,7 +19,8 @@ use Rattle.model.specs.Limits.{limits, startsSize, factsSize, storeSize}
 use Rattle.table.specs.Table.{slot}
 use Rattle.layout.specs.Rows.{inTurn, clockIn, clocksIn, startsIn, valuesOf, valuesIn}
 use Rattle.layout.specs.StoredValid.{StoredValid}
-use Rattle.layout.proofs.Totals.{sum-next, sum-few, rows-fit}
+use Rattle.offsets.proofs.Totals.{sum-next, sum-few}
+use Rattle.layout.proofs.Room.{rows-fit}
 use Rattle.layout.proofs.Turns.{spread, turns, turn-at, turn-total}
 use Rattle.layout.proofs.Cells.{Rows, clocks, stations-are}
 

@@ -1,4 +1,4 @@
-pub mod Totals
+pub mod Room
 pub mod Grown
 pub mod Turns
 pub mod Cells

@@ -1,12 +1,11 @@
 // The event table of a loaded log laid out for the basis, and the test whether a cut is consistent.
 pub mod consistent;
-mod offsets;
 mod starts;
 mod values;
 
-use crate::offsets::offsets;
 use crate::starts::lay_starts;
 use crate::values::lay_values;
+use offsets::offsets;
 use structure::Shape;
 ghost use mathlib.Core.Path.{_≡_};
 ghost use Prim.Native.Nat.{_≤_, _<_};

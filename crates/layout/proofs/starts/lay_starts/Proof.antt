@@ -8,7 +8,8 @@ use lib.Seq.{take-take}
 use Rattle.model.specs.Limits.{limits, startsSize}
 use Rattle.model.specs.Lists.{total}
 use Rattle.layout.specs.Rows.{startsIn}
-use Rattle.layout.proofs.Totals.{sum-few, station-fits}
+use Rattle.offsets.proofs.Totals.{sum-few}
+use Rattle.layout.proofs.Room.{station-fits}
 use Rattle.layout.proofs.Grown.{copied, starts-first, starts-more}
 use Rattle.layout.proofs.starts.lay_starts.Statement.{statement}
 use Rattle.layout.proofs.starts.lay_starts.Tie as tie

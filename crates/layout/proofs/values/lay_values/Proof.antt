@@ -7,7 +7,7 @@ use lib.ListN.{length, take}
 use lib.Seq.{take-take}
 use Rattle.model.specs.Lists.{sum, total}
 use Rattle.layout.specs.Rows.{inTurn, valuesIn}
-use Rattle.layout.proofs.Totals.{sum-few}
+use Rattle.offsets.proofs.Totals.{sum-few}
 use Rattle.layout.proofs.Grown.{values-more}
 use Rattle.layout.proofs.values.lay_values.Statement.{statement}
 use Rattle.layout.proofs.values.lay_values.Tie as tie

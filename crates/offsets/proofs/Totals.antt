@@ -1,16 +1,14 @@
--- Sums of the first counts: one more count, and their bound. Assumes nothing.
+-- Sums of the first counts: one more count, their bound, and one more sum stored. Assumes nothing.
 use mathlib.Core.Path.{_≡_, refl, _∙_}
 use mathlib.Core.Bool.{Bool, true, false}
 use mathlib.Core.List.{List}
-use Prim.Native.Nat.{ℕ, suc, _+_, _*_, _≤_, _<_}
+use Prim.Native.Nat.{ℕ, _+_, _≤_, _<_}
 use native.Mathlib.Omega.{arith}
 use native.Mathlib.Numerals.{add-one}
-use native.Mathlib.Nat.{add-mul, mul-le-mul-right}
 use lib.ListN.{length, getD, take, set}
 use lib.Seq.{getD-take, getD-set-same, getD-set-other}
 use lib.Dec.{eqb}
 use borrow.Author.Tests.{eqb-true, eqb-false}
-use Rattle.model.specs.Limits.{limits, startsSize}
 use Rattle.model.specs.Lists.{total}
 use Rattle.lattice.proofs.Sums.{total-suc, total-take}
 
@@ -21,16 +19,6 @@ module _ (counts : List ℕ) (n j : ℕ) (h : j < n) where
 
   pub sum-few : total (take j (take n counts)) + getD counts j 0 ≤ total (take n counts)
   sum-few = omega (arith, total-take (take n counts) j, getD-take n counts j 0 h)
-
--- x + 1 rows of n cells
-pub rows-fit : (x n : ℕ) → x ≤ limits .events → n ≤ limits .stations → (x + 1) * n ≤ startsSize
-rows-fit x n a b =
-    let h : x + 1 ≤ suc (limits .events) = omega arith in
-    omega (arith, mul-le-mul-right {m = x + 1} {n = suc (limits .events)} n h)
-
--- the rows of m events behind those of b
-pub station-fits : (b m n : ℕ) → b + m ≤ limits .events → n ≤ limits .stations → (b + 1) * n + m * n ≤ startsSize
-station-fits b m n a h = omega (arith, rows-fit (b + m) n a h, add-mul b m n, add-mul b 1 n, add-mul (b + m) 1 n)
 
 -- one more sum stored
 pub sum-set : (counts offs : List ℕ) (n j x : ℕ) → j < length offs → x ≡ total (take j (take n counts)) → ((i : ℕ) → i < j → getD offs i 0 ≡ total (take i (take n counts)))

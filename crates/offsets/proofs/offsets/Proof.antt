@@ -5,9 +5,9 @@ use Prim.Native.Nat.{ℕ, _+_, _≤_, _<_, _-_}
 use native.Mathlib.Omega.{arith}
 use lib.ListN.{length, take, getD, length-set}
 use Rattle.model.specs.Lists.{sum, total}
-use Rattle.layout.proofs.Totals.{sum-next, sum-few, sum-set}
-use Rattle.layout.proofs.offsets.offsets.Statement.{statement}
-use Rattle.layout.proofs.offsets.offsets.Tie as tie
+use Rattle.offsets.proofs.Totals.{sum-next, sum-few, sum-set}
+use Rattle.offsets.proofs.offsets.Statement.{statement}
+use Rattle.offsets.proofs.offsets.Tie as tie
 
 abbrev Inv-loop : tie.InvT-loop
 Inv-loop n counts offs₀ sum₀ j₀ offs sum j = (j ≤ n) × (length offs ≡ 8) × (sum ≡ total (take j (take n counts))) × ((i : ℕ) → i < j → getD offs i 0 ≡ total (take i (take n counts)))
