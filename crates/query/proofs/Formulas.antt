@@ -4,7 +4,7 @@ use mathlib.Core.List.{List, [], _∷_}
 use mathlib.Core.Option.{Option, none, some}
 use Rattle.model.specs.Formula.{Formula, ahead, one, two}
 use Rattle.codec.proofs.Cases.{none-some}
-use Rattle.query.specs.Measured.{first}
+use Rattle.atoms.specs.Measured.{first}
 
 pub one-first : (c : Formula → Formula) (o : Option (List Formula)) → first o ≡ none → first (one c o) ≡ none
 unfolding first one

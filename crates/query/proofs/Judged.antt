@@ -15,9 +15,9 @@ use Rattle.codec.proofs.Cases.{none-some}
 use Rattle.codec.specs.Formulas.{formulas}
 use Rattle.codec.proofs.Formulas.{formulas-none, formulas-formula, formulas-empty}
 use Rattle.extents.specs.declared.Extent.the-variants.{Wide, Narrow}
-use Rattle.query.specs.declared.Size.{Size}
+use Rattle.atoms.specs.declared.Size.{Size}
 use Rattle.query.specs.Judged.{judged}
-use Rattle.query.specs.Measured.{first, Sized}
+use Rattle.atoms.specs.Measured.{first, Sized}
 use Rattle.extents.proofs.Extents.{narrow-of, wide-of}
 
 -- NOT EXACTLY ONE FORMULA

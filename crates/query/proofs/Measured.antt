@@ -2,31 +2,29 @@
 use mathlib.Core.Path.{_≡_, refl, sym, ap, ap₂, _∙_}
 use mathlib.Core.Bool.{Bool, true, false, _&&_, Bool·beq, not as negated}
 use mathlib.Core.List.{List, [], _∷_}
-use mathlib.Core.Option.{Option, none, some}
-use Prim.Native.Nat.{ℕ, suc, _+_, _<_, _≤_}
+use mathlib.Core.Option.{Option, none}
+use Prim.Native.Nat.{ℕ, _+_, _<_, _≤_}
 use native.Mathlib.Numerals.{add-one}
 use native.Mathlib.Omega.{arith}
 use lib.Dec.{eqb}
 use lib.ListN.{length, drop, getD, length-drop}
 use lib.Seq.{drop-drop}
-use borrow.Author.Tests.{lt-leb, eqb-true, eqb-false, ne-eqb}
-use Rattle.model.specs.Atom.{Atom, operands, atomOf, soundAtom}
-use Rattle.model.specs.Formula.{Formula, ahead, one, two, sign, token, weigh, tokens, atoms, sound}
-use Rattle.model.specs.Formula.Formula.{atom, not, and}
-use Rattle.model.specs.Rules.{Normal, asTrue, asFalse}
-use Rattle.model.specs.Size.{width, bars, slim, narrow}
+use borrow.Author.Tests.{eqb-true, eqb-false}
+use Rattle.model.specs.Formula.{Formula, ahead, one, two, sign, weigh, tokens, atoms, sound}
+use Rattle.model.specs.Formula.Formula.{not}
+use Rattle.model.specs.Rules.{Normal}
 use Rattle.lattice.specs.Signed.{normal, two as joining, modal, joinedForm, liftedForm}
 use Rattle.lattice.proofs.Signed.{normal-not, normal-two, normal-modal, weigh-two, weigh-modal, sound-two, sound-modal}
 use Rattle.codec.specs.Formulas.{formulas}
 use Rattle.codec.proofs.Atoms.{sign-none}
-use Rattle.codec.proofs.Formulas.{formulas-none, formulas-token, formulas-atom, formulas-sign, one-ahead, two-ahead}
+use Rattle.codec.proofs.Formulas.{formulas-none, formulas-sign, one-ahead, two-ahead}
 use Rattle.extents.specs.declared.Extent.{Extent}
-use Rattle.extents.specs.declared.Extent.the-variants.{Narrow}
-use Rattle.query.specs.declared.Size.{Size}
-use Rattle.query.specs.declared.Front.{Front}
-use Rattle.query.specs.declared.Front.the-variants.{Nothing, Formula as One}
+use Rattle.atoms.specs.declared.Size.{Size}
+use Rattle.atoms.specs.declared.Front.{Front}
+use Rattle.atoms.specs.declared.Front.the-variants.{Nothing, Formula as One}
 use Rattle.extents.specs.Extents.{extentOf}
-use Rattle.query.specs.Measured.{first, Sized, Measured, Short, Brief, Longer, Together}
+use Rattle.atoms.specs.Measured.{first, Sized, Measured}
+use Rattle.query.specs.Sizes.{Short, Brief, Longer, Together}
 use Rattle.extents.proofs.Extents.{extent-small}
 use Rattle.query.proofs.Formulas.{one-first, two-first, two-second}
 
@@ -52,13 +50,6 @@ sign-modal t o h l = go (eqb t 5) refl
     go : (b : Bool) → eqb t 5 ≡ b → sign t o ≡ one (modal (eqb t 5)) o
     go true e = rw (eqb-true t 5 e)
     go false e = let f : t ≡ 6 = omega (arith, eqb-false t 5 e) in rw f
-
--- THE RULES UNDER A SIGN
-
-extent-atom : (s : Bool) (a : Atom) → Narrow 1 0 ≡ extentOf (normal s (atom a))
-unfolding extentOf asTrue asFalse narrow slim width bars
-extent-atom true a = refl
-extent-atom false a = refl
 
 -- COUNTS
 
@@ -90,44 +81,12 @@ pub measured-brief : (n : ℕ) (s : Bool) (q : List ℕ) (p : Front) → length 
 measured-brief n s q Nothing h x = tt
 measured-brief n s q (One z) h x = sized-short h x
 
--- AN ATOM
-
-module _ (t k : ℕ) (q : List ℕ) (e : operands t ≡ some k) where
-  pub nothing-atom : length q < k → first (formulas (t ∷ q)) ≡ none
-  unfolding token first
-  nothing-atom h = rw (formulas-token t q, e, lt-leb k (length q) h)
-
-  pub sized-atom :
-      (n : ℕ) (s : Bool) {b : Bool}
-      → k ≤ length q
-      → b ≡ soundAtom n (atomOf t q)
-      → Sized n s (t ∷ q) (record { used = suc k; tokens = 1; atoms = 1; sound = b; extent = Narrow 1 0 })
-  unfolding weigh sound
-  sized-atom n s h o =
-      record {
-        formula = atom (atomOf t q);
-        reads = formulas-atom t k q e h;
-        within = omega arith;
-        few-tokens = omega arith;
-        few-atoms = omega arith;
-        tokens = refl;
-        atoms = refl;
-        ordered = o;
-        extent = extent-atom s (atomOf t q);
-      }
-
 -- NO TOKEN
 
 pub nothing-empty : (q : List ℕ) → length q ≡ 0 → first (formulas q) ≡ none
 unfolding first
 nothing-empty [] h = rw formulas-none
 nothing-empty (t ∷ q) h = absurd (omega arith)
-
-pub nothing-unknown : (t : ℕ) (q : List ℕ) → operands t ≡ none → (1 < t → t < 7 → ⊥) → first (formulas (t ∷ q)) ≡ none
-unfolding sign first
-nothing-unknown t q e h =
-    ap first (formulas-sign t q e)
-    ∙ simp (ne-eqb t 2 (λ o. h (omega arith) (omega arith)), ne-eqb t 3 (λ o. h (omega arith) (omega arith)), ne-eqb t 4 (λ o. h (omega arith) (omega arith)), ne-eqb t 5 (λ o. h (omega arith) (omega arith)), ne-eqb t 6 (λ o. h (omega arith) (omega arith)))
 
 -- ONE OPERAND
 

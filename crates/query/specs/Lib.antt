@@ -1,3 +1,3 @@
 -- The definitions that the contracts cite.
 pub mod Judged
-pub mod Measured
+pub mod Sizes

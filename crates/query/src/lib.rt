@@ -1,45 +1,27 @@
 // Whether a question's bytes are exactly one formula, with sound atoms and its size within the limits.
+use atoms::Front;
+use atoms::Size;
+use atoms::and;
+use atoms::leaf;
 use extents::Extent;
 use extents::join;
 use extents::lift;
 ghost use mathlib.Core.Path.{_≡_};
-ghost use mathlib.Core.Bool.{Bool, _&&_, not};
+ghost use mathlib.Core.Bool.{Bool, not};
 ghost use mathlib.Core.List.{List, _∷_};
-ghost use Prim.Native.Nat.{ℕ, _+_, _*_, _≤_, _<_};
+ghost use Prim.Native.Nat.{ℕ, _≤_, _<_};
 ghost use lib.ListN.{length, drop};
 ghost use lib.Dec.{eqb};
 ghost use Rattle.model.specs.Formula.{formulaOf};
 ghost use Rattle.query.specs.Judged.{judged, faultOf};
-ghost use Rattle.query.specs.Measured.{Measured, Sized, Short, Brief, Longer, Together};
+ghost use Rattle.atoms.specs.Measured.{Measured, Sized};
+ghost use Rattle.query.specs.Sizes.{Short, Brief, Longer, Together};
 
 // What is said of a question.
 pub enum Verdict {
     Fine,
     Malformed,
     TooLarge,
-}
-
-// A formula that was read: its bytes, its tokens, how many of them are atoms, whether these are sound, and its extent under the
-// sign it is used in.
-struct Size {
-    pub used: usize,
-    pub tokens: usize,
-    pub atoms: usize,
-    pub sound: bool,
-    pub extent: Extent,
-}
-
-// What stands at the front of some bytes.
-enum Front {
-    Nothing,
-    Formula(Size),
-}
-
-// Whether both hold.
-fn and(a: bool, b: bool) -> bool
-    ensures { λ r. ⌜ r ≡ (a && b) ⌝ }
-{
-    a && b
 }
 
 // A size with one token more in front.
@@ -67,36 +49,6 @@ fn together(y: Size, z: Size, e: Extent) -> Size
         atoms: y.atoms + z.atoms,
         sound: and(y.sound, z.sound),
         extent: e,
-    }
-}
-
-// 01 before `rest`: five bytes of it are its station, lo and hi.
-fn range(rest: &[u8], n: usize) -> Front
-    ensures { λ r. ⌜ ((s : Bool) → Measured n s (1 ∷ now (rest .entry)) r) ⌝ }
-{
-    if rest.len() < 5 {
-        return Front::Nothing;
-    }
-    let s = rest[0] as usize;
-    let lo = cells::word(rest, 1);
-    let hi = cells::word(rest, 3);
-    Front::Formula(Size {
-        used: 6,
-        tokens: 1,
-        atoms: 1,
-        sound: and(s < n, lo <= hi),
-        extent: Extent::Narrow(1, 0),
-    })
-}
-
-// A token that is no sign, before `rest`: an atom's, or unknown.
-fn leaf(t: u8, rest: &[u8], n: usize) -> Front
-    requires { ⌜ (1 < t → t < 7 → ⊥) ⌝ }
-    ensures { λ r. ⌜ ((s : Bool) → Measured n s (t ∷ now (rest .entry)) r) ⌝ }
-{
-    match t {
-        1 => range(rest, n),
-        0 | 2..=255 => Front::Nothing,
     }
 }
 

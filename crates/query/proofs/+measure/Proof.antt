@@ -10,13 +10,13 @@ use lib.Dec.{eqb}
 use lib.ListN.{length, getD, length-drop}
 use borrow.Fn.Kinds.{In}
 use borrow.Fn.PlainCycle.{Measures, is, falls, and}
-use Rattle.query.specs.Measured.{Sized}
+use Rattle.atoms.specs.Measured.{Sized}
 use Rattle.query.proofs.Measured as laws
 use Rattle.query.proofs.measure.Reads as measure
 use Rattle.query.proofs.measure.Kinds as measure-kinds
 use Rattle.query.proofs.+measure.Lts-measure as measure-lts
 use Rattle.cells.proofs.after.Reads as after-reads
-use Rattle.query.proofs.leaf.Reads as leaf-reads
+use Rattle.atoms.proofs.leaf.Reads as leaf-reads
 use Rattle.query.proofs.modal.Reads as modal-reads
 use Rattle.query.proofs.negated.Reads as negated-reads
 use Rattle.query.proofs.paired.Reads as paired-reads

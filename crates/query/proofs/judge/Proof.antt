@@ -2,7 +2,7 @@
 use mathlib.Core.Bool.{true}
 use borrow.Author.Tests.{not-true, not-false}
 use borrow.Author.Needs.{needs}
-use Rattle.query.specs.Measured.{Sized}
+use Rattle.atoms.specs.Measured.{Sized}
 use Rattle.query.proofs.Judged.{judged-nothing, judged-more, judged-order, judged-tokens, judged-atoms, judged-wide, judged-fine}
 use Rattle.query.proofs.judge.Statement.{statement}
 use Rattle.query.proofs.judge.Tie as tie

@@ -1,6 +1,6 @@
 -- `query::paired` meets its contract, by the laws of and and or. Assumes nothing.
 use borrow.Author.Needs.{needs}
-use Rattle.query.specs.Measured.{Short}
+use Rattle.query.specs.Sizes.{Short}
 use Rattle.query.proofs.Measured.{nothing-right, sized-two}
 use Rattle.query.proofs.paired.Statement.{statement}
 use Rattle.query.proofs.paired.Tie as tie

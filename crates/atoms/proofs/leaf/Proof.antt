@@ -1,10 +1,10 @@
--- `query::leaf` meets its contract: each atom's token by its function, any other spells nothing. Assumes nothing.
+-- `atoms::leaf` meets its contract: each atom's token by its function, any other spells nothing. Assumes nothing.
 use native.Mathlib.Omega.{arith}
 use Rattle.codec.proofs.Atoms.{token-none}
-use Rattle.query.proofs.Measured.{nothing-unknown}
+use Rattle.atoms.proofs.Atoms.{nothing-unknown}
 use borrow.Author.Needs.{needs}
-use Rattle.query.proofs.leaf.Statement.{statement}
-use Rattle.query.proofs.leaf.Tie as tie
+use Rattle.atoms.proofs.leaf.Statement.{statement}
+use Rattle.atoms.proofs.leaf.Tie as tie
 
 range-requires : tie.Need-range-requires
 range-requires c κs = search needs

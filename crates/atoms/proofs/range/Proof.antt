@@ -1,4 +1,4 @@
--- `query::range` meets its contract, by the laws of an atom's token. Assumes nothing.
+-- `atoms::range` meets its contract, by the laws of an atom's token. Assumes nothing.
 use mathlib.Core.Path.{_≡_, refl}
 use mathlib.Core.Bool.{Bool, _&&_}
 use mathlib.Core.List.{List}
@@ -10,9 +10,9 @@ use lib.ListN.{getD, drop}
 use Rattle.model.specs.Frames.{word}
 use Rattle.model.specs.Atom.{operands, atomOf, soundAtom}
 use borrow.Author.Needs.{needs}
-use Rattle.query.proofs.Measured.{nothing-atom, sized-atom}
-use Rattle.query.proofs.range.Statement.{statement}
-use Rattle.query.proofs.range.Tie as tie
+use Rattle.atoms.proofs.Atoms.{nothing-atom, sized-atom}
+use Rattle.atoms.proofs.range.Statement.{statement}
+use Rattle.atoms.proofs.range.Tie as tie
 
 -- 01 is followed by five bytes.
 five : operands 1 ≡ some 5

@@ -1,0 +1,57 @@
+-- What is at the front of a token that is no sign and the bytes after it: an atom, or nothing.
+use mathlib.Core.Path.{_≡_, refl, ap, _∙_}
+use mathlib.Core.Bool.{Bool, true, false}
+use mathlib.Core.List.{List, _∷_}
+use mathlib.Core.Option.{none, some}
+use Prim.Native.Nat.{ℕ, suc, _<_, _≤_}
+use native.Mathlib.Omega.{arith}
+use lib.ListN.{length}
+use borrow.Author.Tests.{lt-leb, ne-eqb}
+use Rattle.model.specs.Atom.{Atom, operands, atomOf, soundAtom}
+use Rattle.model.specs.Formula.{sign, token, weigh, sound}
+use Rattle.model.specs.Formula.Formula.{atom}
+use Rattle.model.specs.Rules.{asTrue, asFalse}
+use Rattle.model.specs.Size.{width, bars, slim, narrow}
+use Rattle.lattice.specs.Signed.{normal}
+use Rattle.codec.specs.Formulas.{formulas}
+use Rattle.codec.proofs.Formulas.{formulas-token, formulas-atom, formulas-sign}
+use Rattle.extents.specs.declared.Extent.the-variants.{Narrow}
+use Rattle.extents.specs.Extents.{extentOf}
+use Rattle.atoms.specs.Measured.{first, Sized}
+
+extent-atom : (s : Bool) (a : Atom) → Narrow 1 0 ≡ extentOf (normal s (atom a))
+unfolding extentOf asTrue asFalse narrow slim width bars
+extent-atom true a = refl
+extent-atom false a = refl
+
+module _ (t k : ℕ) (q : List ℕ) (e : operands t ≡ some k) where
+  pub nothing-atom : length q < k → first (formulas (t ∷ q)) ≡ none
+  unfolding token first
+  nothing-atom h = rw (formulas-token t q, e, lt-leb k (length q) h)
+
+  pub sized-atom :
+      (n : ℕ) (s : Bool) {b : Bool}
+      → k ≤ length q
+      → b ≡ soundAtom n (atomOf t q)
+      → Sized n s (t ∷ q) (record { used = suc k; tokens = 1; atoms = 1; sound = b; extent = Narrow 1 0 })
+  unfolding weigh sound
+  sized-atom n s h o =
+      record {
+        formula = atom (atomOf t q);
+        reads = formulas-atom t k q e h;
+        within = omega arith;
+        few-tokens = omega arith;
+        few-atoms = omega arith;
+        tokens = refl;
+        atoms = refl;
+        ordered = o;
+        extent = extent-atom s (atomOf t q);
+      }
+
+-- NO ATOM
+
+pub nothing-unknown : (t : ℕ) (q : List ℕ) → operands t ≡ none → (1 < t → t < 7 → ⊥) → first (formulas (t ∷ q)) ≡ none
+unfolding sign first
+nothing-unknown t q e h =
+    ap first (formulas-sign t q e)
+    ∙ simp (ne-eqb t 2 (λ o. h (omega arith) (omega arith)), ne-eqb t 3 (λ o. h (omega arith) (omega arith)), ne-eqb t 4 (λ o. h (omega arith) (omega arith)), ne-eqb t 5 (λ o. h (omega arith) (omega arith)), ne-eqb t 6 (λ o. h (omega arith) (omega arith)))
