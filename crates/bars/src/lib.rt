@@ -49,6 +49,6 @@ pub fn barred_out(ws: &[u8], at: usize, bs: &[u8], bar: usize, x: Shape) -> bool
         return false;
     }
     let mut g = [0u8; 8];
-    structure::greatest(ws, at, x, &mut g);
+    tops::greatest(ws, at, x, &mut g);
     structure::barred(&g, bs, bar, x.n)
 }

@@ -36,7 +36,7 @@ fn print_structure(ws: &[u8], at: usize, bs: &[u8], bar: usize, x: Shape)
     let n = x.n;
     trial::print_line(b"least", &ws[at..at + n]);
     let mut greatest = [0u8; 8];
-    structure::greatest(ws, at, x, &mut greatest);
+    tops::greatest(ws, at, x, &mut greatest);
     trial::print_line(b"greatest", &greatest[0..n]);
     print_bars(bs, bar, n);
 }

@@ -33,7 +33,7 @@ fn list_cuts(ws: &[u8], count: usize, x: Shape, cuts: &mut [u8]) -> usize
     while 0 < i {
         i -= 1;
         let at = i * ((e + 1) * n);
-        structure::greatest(ws, at, x, &mut cut);
+        tops::greatest(ws, at, x, &mut cut);
         listed = cuts::add_cut(cuts, listed, n, &cut);
     }
     listed

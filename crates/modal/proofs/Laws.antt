@@ -21,7 +21,7 @@ use Rattle.lattice.proofs.Cuts.{⊑-inside, join-at, empty-⊑}
 use Rattle.structure.specs.Layout.{decoded, rowsAt, stationsAt, structureAt, standing, barsAt, cells, barCells}
 use Rattle.structure.specs.declared.Shape.{Shape}
 use Rattle.structure.specs.Laid.{Laid}
-use Rattle.structure.specs.Greatest.{GreatestAt}
+use Rattle.tops.specs.Greatest.{GreatestAt}
 use Rattle.steps.specs.Rows.{rowAt, absent, belowRow, Ended}
 use Rattle.cells.proofs.Parts.{drop-whole, part-same, paste-front, paste-part, paste-behind, put-end}
 use Rattle.structure.proofs.Rows.{decoded-none, decoded-some}
@@ -30,7 +30,7 @@ use Rattle.steps.proofs.Parts.{row-zero, row-suc}
 use Rattle.steps.proofs.Built.{start-there, build-there, keep-free, no-bars}
 use Rattle.steps.proofs.Atoms.{not-both}
 use Rattle.structure.proofs.Standing.{set-same, standing-same, standing-add, standing-each}
-use Rattle.structure.proofs.LastRows.{greatest-of, starts-ascend}
+use Rattle.tops.proofs.LastRows.{greatest-of, starts-ascend}
 use Rattle.modal.specs.Post.{Present, Lowered, Possible, Impossible}
 
 -- ROWS BELOW A CUT

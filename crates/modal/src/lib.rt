@@ -6,7 +6,7 @@ ghost use lib.ListN.{length, getD, take, drop, replicate};
 ghost use lib.Seq.{paste};
 ghost use Rattle.model.specs.Limits.{limits};
 ghost use Rattle.structure.specs.Shaped.{Shaped};
-ghost use Rattle.structure.specs.Greatest.{GreatestAt};
+ghost use Rattle.tops.specs.Greatest.{GreatestAt};
 ghost use Rattle.steps.specs.Rows.{rowAt, belowRow};
 ghost use Rattle.modal.specs.Post.{Present, Lowered, Possible, Impossible};
 
@@ -45,7 +45,7 @@ fn lower_one(ws: &mut [u8], bs: &mut [u8], x: Shape, starts: &[u8])
     let n = x.n;
     let e = x.e;
     let mut g = [0u8; 8];
-    structure::greatest(ws, 0, x, &mut g);
+    tops::greatest(ws, 0, x, &mut g);
     below_rows(ws, n, e, &g, starts);
     bs[0] = cells::NONE;
 }
@@ -82,7 +82,7 @@ fn bar_each(ws: &[u8], bs: &mut [u8], count: usize, x: Shape)
     let mut i = 0;
     while i < count {
         let mut g = [0u8; 8];
-        structure::greatest(ws, i * size, x, &mut g);
+        tops::greatest(ws, i * size, x, &mut g);
         cells::copy(bs, i * n, &g, 0, n);
         i += 1;
     }
@@ -101,7 +101,7 @@ pub fn bar(ws: &mut [u8], bs: &mut [u8], count: usize, x: Shape, starts: &[u8]) 
     steps::end_bars(bs, 0, count, n);
     cells::copy(ws, 0, starts, 0, (e + 1) * n);
     let mut g = [0u8; 8];
-    structure::greatest(ws, 0, x, &mut g);
+    tops::greatest(ws, 0, x, &mut g);
     if structure::barred(&g, bs, 0, n) {
         0
     } else {

@@ -2,7 +2,6 @@
 pub mod Rows
 pub mod Places
 pub mod Raising
-pub mod LastRows
 pub mod Bars
 pub mod Listed
 pub mod Standing

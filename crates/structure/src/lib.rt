@@ -1,4 +1,4 @@
-// Structures in a workspace: raising a cut, the greatest cut, the bars.
+// Structures in a workspace: raising a cut, the bars, whether a cut belongs.
 use cells::NONE;
 use cells::contained;
 use cells::copy_cut;
@@ -10,11 +10,9 @@ ghost use Prim.Native.Nat.{ℕ, _+_, _*_, _≤_, _<_};
 ghost use lib.ListN.{length, getD, take, drop};
 ghost use Rattle.model.specs.Cut.{insideAny};
 ghost use Rattle.model.specs.Structure.{raise, belongs};
-ghost use Rattle.lattice.specs.Ascending.{LastRow};
 ghost use Rattle.structure.specs.Layout.{decoded, barsAt, placed};
 ghost use Rattle.structure.specs.Shaped.{Shaped};
 ghost use Rattle.structure.specs.Added.{Added};
-ghost use Rattle.structure.specs.Greatest.{GreatestAt};
 
 // The stations and events of a log: how many there are, how many events each station has, and how many all stations before it.
 pub struct Shape {
@@ -62,45 +60,6 @@ fn raise(ws: &[u8], at: usize, x: Shape, cut: &[u8; 8], out: &mut [u8])
     let mut j = 0;
     while j < n {
         add_station(ws, at, x, j, cut[j], &mut acc);
-        j += 1;
-    }
-    copy_cut(out, &acc);
-}
-
-// The place of the last row of station j that is there, or else of the least cut.
-fn last_row(ws: &[u8], at: usize, x: Shape, j: usize) -> usize
-    requires { ⌜ Shaped x ⌝ }
-    requires { ⌜ (j < x .n) × (at + (x .e + 1) * x .n ≤ length (now ws)) ⌝ }
-    ensures { λ r. ⌜ (r + x .n ≤ length (now (ws .entry))) × ((bs : List ℕ) → LastRow (placed (x .n) (x .counts) (now (ws .entry)) at bs) j (getD (x .counts) j 0) (take (x .n) (drop r (now (ws .entry))))) ⌝ }
-{
-    let n = x.n;
-    let counts = x.counts;
-    let offs = x.offs;
-    let before = wide(offs[j]);
-    let mut k = wide(counts[j]);
-    while 0 < k {
-        let p = at + (before + k) * n;
-        if ws[p] != NONE {
-            return p;
-        }
-        k -= 1;
-    }
-    at
-}
-
-// The greatest cut of a set whose rows ascend: the least cut joined with the last row of each station.
-pub fn greatest(ws: &[u8], at: usize, x: Shape, out: &mut [u8])
-    requires { ⌜ Shaped x ⌝ }
-    requires { ⌜ (length (now out) ≡ 8) × (at + (x .e + 1) * x .n ≤ length (now ws)) ⌝ }
-    ensures { λ _. ⌜ GreatestAt x (now (ws .entry)) at (take (x .n) (now (out .exit))) ⌝ }
-{
-    let n = x.n;
-    let mut acc = [0u8; 8];
-    join_at(&mut acc, ws, at, n);
-    let mut j = 0;
-    while j < n {
-        let p = last_row(ws, at, x, j);
-        join_at(&mut acc, ws, p, n);
         j += 1;
     }
     copy_cut(out, &acc);

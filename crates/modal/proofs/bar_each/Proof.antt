@@ -4,7 +4,7 @@ use mathlib.Core.Path.{_≡_, refl, _∙_}
 use native.Mathlib.Omega.{arith}
 use native.Mathlib.Nat.{not-suc-le-zero}
 use lib.ListN.{length, drop}
-use Rattle.structure.specs.Greatest.{GreatestAt}
+use Rattle.tops.specs.Greatest.{GreatestAt}
 use Rattle.steps.specs.Rows.{rowAt}
 use Rattle.structure.proofs.Places.{next-fits}
 use Rattle.steps.proofs.Parts.{size-small}

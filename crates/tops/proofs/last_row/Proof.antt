@@ -1,13 +1,13 @@
--- `structure::last_row` meets its contract: the rows behind event k are none.
+-- `tops::last_row` meets its contract: the rows behind event k are none.
 use mathlib.Core.Path.{_≡_}
 use Prim.Native.Nat.{ℕ, _+_, _*_, _≤_, _<_}
 use native.Mathlib.Omega.{arith}
 use lib.ListN.{length, getD}
 use Rattle.structure.proofs.Raising.{shape-room}
-use Rattle.structure.proofs.LastRows as last
+use Rattle.tops.proofs.LastRows as last
 use borrow.Author.Needs.{needs}
-use Rattle.structure.proofs.last_row.Statement.{statement}
-use Rattle.structure.proofs.last_row.Tie as tie
+use Rattle.tops.proofs.last_row.Statement.{statement}
+use Rattle.tops.proofs.last_row.Tie as tie
 
 abbrev Inv-loop : tie.InvT-loop
 Inv-loop ws at j n before k₀ k = (k ≤ k₀) × ((i : ℕ) → k < i → i ≤ k₀ → getD ws (at + (before + i) * n) 0 ≡ 255)

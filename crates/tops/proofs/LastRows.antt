@@ -16,15 +16,15 @@ use Rattle.model.specs.Structure.{row, greatest}
 use Rattle.lattice.specs.Ascending.{RowsAscend, LastRow}
 use Rattle.lattice.proofs.Sums.{total-take}
 use Rattle.lattice.proofs.Ascending.{Gathered, gathered-none, gathered-more, gathered-all, all-ascend}
 use Rattle.structure.specs.Layout.{decoded, barsAt, structureAt, placed}
 use Rattle.structure.specs.declared.Shape.{Shape}
 use Rattle.structure.specs.Shaped.{Shaped}
-use Rattle.structure.specs.Greatest.{GreatestAt}
 use Rattle.structure.specs.Laid.{Laid}
 use Rattle.cells.proofs.Cuts.{join-zeros}
 use Rattle.structure.proofs.Rows.{is-none, is-some, decoded-is, first-at}
 use Rattle.structure.proofs.Places.{row-place, row-past, length-stations, placed-row, placed-room}
 use Rattle.structure.proofs.Raising.{shape-room}
+use Rattle.tops.specs.Greatest.{GreatestAt}
 
 -- What holds behind event k and at it holds behind the one before.
 pub one-before : (P : ℕ → Type 0) (k m : ℕ) → ((i : ℕ) → k < i → i ≤ m → P i) → P k → (i : ℕ) → k - 1 < i → i ≤ m → P i

@@ -1,4 +1,4 @@
--- `structure::greatest` meets its contract: after j stations the accumulator has their rows in it.
+-- `tops::greatest` meets its contract: after j stations the accumulator has their rows in it.
 use mathlib.Core.List.{List}
 use mathlib.Core.Path.{_≡_, _∙_}
 use Prim.Native.Nat.{ℕ, _-_, _≤_}
@@ -6,12 +6,12 @@ use native.Mathlib.Omega.{arith}
 use lib.ListN.{length, take, drop}
 use Rattle.lattice.specs.Ascending.{RowsAscend}
 use Rattle.lattice.proofs.Ascending.{Gathered}
 use Rattle.structure.specs.Layout.{placed}
 use Rattle.structure.proofs.Raising.{shape-room}
-use Rattle.structure.proofs.LastRows as last
+use Rattle.tops.proofs.LastRows as last
 use borrow.Author.Needs.{needs}
-use Rattle.structure.proofs.greatest.Statement.{statement}
-use Rattle.structure.proofs.greatest.Tie as tie
+use Rattle.tops.proofs.greatest.Statement.{statement}
+use Rattle.tops.proofs.greatest.Tie as tie
 
 abbrev Inv-loop : tie.InvT-loop
 Inv-loop ws at x out n acc₀ j₀ acc j = (j ≤ n) × (length acc ≡ 8) × ((bs : List ℕ) → RowsAscend (take n (x .counts)) (placed n (x .counts) ws at bs) → Gathered (placed n (x .counts) ws at bs) j (take n acc))
