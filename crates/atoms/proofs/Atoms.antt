@@ -44,7 +44,7 @@ module _ (t k : ℕ) (q : List ℕ) (e : operands t ≡ some k) where
         few-atoms = omega arith;
         tokens = refl;
         atoms = refl;
-        ordered = o;
+        sound = o;
         extent = extent-atom s (atomOf t q);
       }
 

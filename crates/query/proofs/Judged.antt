@@ -55,15 +55,15 @@ module _ {n : ℕ} {q : List ℕ} {z : Size} (x : Sized n true q z) where
     unfolding formulaOf single ahead
     one-formula = rw (x .reads, h, drop-of-length-le q {i = length q} (omega arith), formulas-none)
 
-    pub judged-order : z .sound ≡ false → some 8 ≡ judged n (formulaOf q)
+    pub judged-unsound : z .sound ≡ false → some 8 ≡ judged n (formulaOf q)
     unfolding judged
-    judged-order s = simp (one-formula, sym (x .ordered) ∙ s)
+    judged-unsound s = simp (one-formula, sym (x .sound) ∙ s)
 
     module _ (s : z .sound ≡ true) where
       -- With sound atoms only the size is left.
       by-size : judged n (formulaOf q) ≡ cond (leb (z .tokens) 32 && leb (z .atoms) 12 && narrow (asTrue (x .formula))) none (some 9)
       unfolding judged fits
-      by-size = simp (one-formula, sym (x .ordered) ∙ s, x .tokens, x .atoms)
+      by-size = simp (one-formula, sym (x .sound) ∙ s, x .tokens, x .atoms)
 
       pub judged-tokens : 32 < z .tokens → some 9 ≡ judged n (formulaOf q)
       judged-tokens t = sym (by-size ∙ simp (lt-leb _ _ t))

@@ -57,14 +57,14 @@ sign-modal t o h l = go (eqb t 5) refl
 record Unary (n : ℕ) (c : Formula → Formula) : Type 0 where
   pub more : (f : Formula) → tokens (c f) ≡ 1 + tokens f
   pub same : (f : Formula) → atoms (c f) ≡ 0 + atoms f
-  pub order : (f : Formula) → sound n (c f) ≡ sound n f
+  pub sound-same : (f : Formula) → sound n (c f) ≡ sound n f
 
 unary-not : (n : ℕ) → Unary n not
 unfolding weigh sound
-unary-not n = record { more = λ f. refl; same = λ f. refl; order = λ f. refl }
+unary-not n = record { more = λ f. refl; same = λ f. refl; sound-same = λ f. refl }
 
 unary-modal : (n : ℕ) (b : Bool) → Unary n (modal b)
-unary-modal n b = record { more = weigh-modal 1 1 1 b; same = weigh-modal 1 0 0 b; order = sound-modal n b }
+unary-modal n b = record { more = weigh-modal 1 1 1 b; same = weigh-modal 1 0 0 b; sound-same = sound-modal n b }
 
 -- WHAT A SIZE TELLS
 
@@ -108,7 +108,7 @@ sized-one {t = t} {q = q} {z = z} {r = r} c u k x i l =
       few-atoms = omega arith;
       tokens = omega (arith, u .more (x .formula));
       atoms = omega (arith, u .same (x .formula));
-      ordered = l .ordered ∙ x .ordered ∙ sym (u .order (x .formula));
+      sound = l .sound ∙ x .sound ∙ sym (u .sound-same (x .formula));
       extent = l .extent ∙ i;
     }
 
@@ -176,6 +176,6 @@ module _ (t : ℕ) (h : 2 < t) (l : t < 5) (q : List ℕ) where
           few-atoms = omega arith;
           tokens = omega (arith, weigh-two 1 1 1 b f g);
           atoms = omega (arith, weigh-two 1 0 0 b f g);
-          ordered = k .ordered ∙ ap₂ _&&_ (x .ordered) (w .ordered) ∙ sym (sound-two n b f g);
+          sound = k .sound ∙ ap₂ _&&_ (x .sound) (w .sound) ∙ sym (sound-two n b f g);
           extent = k .extent ∙ i (normal s f) (normal s g) (x .extent) (w .extent) ∙ ap extentOf (sym (normal-two s b f g));
         }

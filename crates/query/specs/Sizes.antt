@@ -24,7 +24,7 @@ pub record Longer (z : Size) (e : Extent) (r : Size) : Type 0 where
   pub used : r .used ≡ z .used + 1
   pub tokens : r .tokens ≡ z .tokens + 1
   pub atoms : r .atoms ≡ z .atoms
-  pub ordered : r .sound ≡ z .sound
+  pub sound : r .sound ≡ z .sound
   pub extent : r .extent ≡ e
 
 -- The size of two formulas under a sign, whose extent is e.
@@ -32,5 +32,5 @@ pub record Together (y z : Size) (e : Extent) (r : Size) : Type 0 where
   pub used : r .used ≡ y .used + z .used + 1
   pub tokens : r .tokens ≡ y .tokens + z .tokens + 1
   pub atoms : r .atoms ≡ y .atoms + z .atoms
-  pub ordered : r .sound ≡ (y .sound && z .sound)
+  pub sound : r .sound ≡ (y .sound && z .sound)
   pub extent : r .extent ≡ e

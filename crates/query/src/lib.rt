@@ -116,7 +116,7 @@ fn measure(q: &[u8], n: usize, sign: bool) -> Front
     }
 }
 
-// Whether the question is one formula, in order, and not too large.
+// Whether the question is one formula, its atoms sound, and not too large.
 pub fn judge(q: &[u8], n: usize) -> Verdict
     requires { ⌜ length (now q) ≤ 99 ⌝ }
     ensures { λ r. ⌜ faultOf r ≡ judged n (formulaOf (now (q .entry))) ⌝ }

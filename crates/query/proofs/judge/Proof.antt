@@ -3,7 +3,7 @@ use mathlib.Core.Bool.{true}
 use borrow.Author.Tests.{not-true, not-false}
 use borrow.Author.Needs.{needs}
 use Rattle.atoms.specs.Measured.{Sized}
-use Rattle.query.proofs.Judged.{judged-nothing, judged-more, judged-order, judged-tokens, judged-atoms, judged-wide, judged-fine}
+use Rattle.query.proofs.Judged.{judged-nothing, judged-more, judged-unsound, judged-tokens, judged-atoms, judged-wide, judged-fine}
 use Rattle.query.proofs.judge.Statement.{statement}
 use Rattle.query.proofs.judge.Tie as tie
 
@@ -27,7 +27,7 @@ returns-2 : tie.Need-returns-2
 returns-2 c = judged-more (size (c .before .before)) (c .if1 .taken)
 
 returns-3 : tie.Need-returns-3
-returns-3 c = judged-order (size (c .before .before .before .before)) (c .before .before .if1 .left) (not-true _ (c .if2 .taken))
+returns-3 c = judged-unsound (size (c .before .before .before .before)) (c .before .before .if1 .left) (not-true _ (c .if2 .taken))
 
 returns-4 : tie.Need-returns-4
 returns-4 c = judged-tokens (size (c .before .before .before .before .before .before)) (c .before .before .before .before .if1 .left) (not-false _ (c .before .before .if2 .left)) (c .if3 .taken)
