@@ -3,9 +3,11 @@
 
 Usage: program.py      after `rt check moments`; exit code 1 on any difference
 Each file goes in as a file, through a pipe at once, and in two writes; short ones also one byte at a time. A refusal is worked out by
-hand besides, and where a log has too many cuts to list them the answer is by the rule of the basis.
+hand besides, and where a log has too many cuts to list them the answer is by the rule of the basis. The logs of examples/ go in with
+what README.md shows for each.
 """
 import pathlib
+import re
 import subprocess
 import sys
 import tempfile
@@ -16,7 +18,8 @@ from bench_cases import ALL, BENCH, HEAD, HEADER, WIDE18, chain, ladder
 from frames import Draw, atom, log_of, word
 from listing import LOG, Refused, answer_line, atoms, contained, encode, printed, read, size, tokens
 
-PROGRAM = pathlib.Path(__file__).resolve().parent.parent / "target" / "bin" / "moments"
+ROOT = pathlib.Path(__file__).resolve().parent.parent
+PROGRAM = ROOT / "target" / "bin" / "moments"
 SHORT, PAUSE, LIMIT = 100, 0.05, 60
 
 
@@ -79,6 +82,15 @@ def at_every_limit():
     return log_of(frames + [[0x30] + question(d, [[2, 2], [2, 5], [5], [6, 2]][i % 4]) for i in range(16)])
 
 
+def examples():
+    """The logs of examples/, each with the line that README.md shows for it."""
+    shown = re.findall(r"^    \$ \./answer\.sh (\S+)\n    (\S+)$", (ROOT / "README.md").read_text(), re.M)
+    if sorted(name for name, _ in shown) != sorted(str(path.relative_to(ROOT)) for path in (ROOT / "examples").iterdir()):
+        sys.exit("README.md does not show each log of examples/ once")
+    for name, line in shown:
+        yield name, (ROOT / name).read_bytes(), line.encode() + b"\n"
+
+
 def files():
     """A name, the bytes, and what is to be printed where that is worked out by hand."""
     long, full = refusal(1, 0), at_every_limit()
@@ -112,6 +124,7 @@ def files():
     yield "width 18", WIDE18, refusal(9, 5)
     yield "ladder of 3 stations", ladder(3, 24), None
     yield "ladder of 8 stations", ladder(8, 127), None
+    yield from examples()
 
 
 # RUNS
