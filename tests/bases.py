@@ -7,9 +7,9 @@ import sys
 from functools import cache
 from math import prod
 
-from bench_cases import ALL, ladder
+from bench_cases import ALL, ZERO, ladder
 from frames import Draw, atom, case, computation, formula, log_of
-from listing import Listing, Refused, Walk, admit, contained, read
+from listing import Listing, Refused, Walk, admit, contained, read, within
 
 LISTED = 1500
 
@@ -41,7 +41,7 @@ class Rule(Walk):
     def atom(self, s, lo, hi, sign):
         def raised(c):
             for k in range(c[s], len(self.log.history[s]) + 1):
-                if (lo <= self.log.value(s, k) <= hi) == sign:
+                if within(lo, hi, self.log.value(s, k)) == sign:
                     return join(c, self.log.clock(s, k))
             return None
 
@@ -155,6 +155,7 @@ def drawn(d, n, events, questions):
 def logs(seed):
     d = Draw(seed)
     yield ALL
+    yield ZERO
     yield ladder(3, 24)
     yield ladder(2, 40)
     yield ladder(8, 127)

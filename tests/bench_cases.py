@@ -21,9 +21,29 @@ QUESTIONS = [
     [3] * 3 + ([4] + atom(0, 0, 5) + atom(1, 0, 1)) * 4,
     [6, 4] + [2] + atom(0, 5, 5) + [5] + atom(1, 2, 2),
 ]
+# Ranges through zero: the values 2 and 0 of station 1 and not 1; its three values at either end; every value, and none.
+THROUGH_ZERO = [
+    atom(1, 2, 0),
+    [2] + atom(1, 2, 0),
+    [5, 2] + atom(1, 2, 0),
+    [6] + atom(1, 2, 0),
+    atom(1, 3, 0),
+    [2] + atom(1, 3, 0),
+    atom(0, 65535, 0),
+    atom(0, 5, 4),
+    [2] + atom(0, 5, 4),
+    [6] + atom(0, 6, 5),
+    atom(0, 65535, 65534),
+    [2] + atom(1, 1, 0),
+    [3] + atom(0, 5, 1) + atom(1, 2, 0),
+    [3] + atom(0, 6, 0) + [2] + atom(1, 2, 0),
+    [4] + atom(0, 6, 1) + atom(1, 65535, 0),
+    [3] + [2] + atom(0, 5, 4) + atom(1, 2, 0),
+]
 HEAD = b"100200000000EE\n200000050100DA\n200100010001DD\n200100020102DA\n"
 BENCH = HEAD + b"3003010000050005010100010001BE\n"
 ALL = HEAD + log_of([0x30] + q for q in QUESTIONS)
+ZERO = HEAD + log_of([0x30] + q for q in THROUGH_ZERO)
 WIDE18 = HEAD + encode([0x30, 3, 3] + [4, 4] + atom(0, 0, 5) * 3 + [4, 4] + atom(1, 0, 5) * 3 + [4] + atom(0, 0, 5) * 2)
 HEADER = encode(ONE)
 
@@ -75,12 +95,13 @@ def holds(data, q, cut, short=0):
 
 
 def cases():
-    for data in (BENCH, ALL, HEAD, b"", b"\n", WIDE18, chain(127), chain(128), chain(0), HEADER, b"0" * 8193, ladder(3, 24), ladder(2, 40)):
+    for data in (BENCH, ALL, ZERO, HEAD, b"", b"\n", WIDE18, chain(127), chain(128), chain(0), HEADER, b"0" * 8193, ladder(3, 24), ladder(2, 40)):
         yield program(data)
-    for q in range(len(QUESTIONS) + 1):
-        yield answer(ALL, q)
-        for cut in [(a, b) for a in range(3) for b in range(4)] + [(), (0,), (0, 0, 0)]:
-            yield holds(ALL, q, cut)
+    for data in (ALL, ZERO):
+        for q in range(len(QUESTIONS) + 1):
+            yield answer(data, q)
+            for cut in [(a, b) for a in range(3) for b in range(4)] + [(), (0,), (0, 0, 0)]:
+                yield holds(data, q, cut)
     for short in (0, 1, 2, 3):
         for size in (0, 272, 273, 300):
             yield answer(BENCH, 0, short, size)

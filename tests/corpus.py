@@ -1,12 +1,15 @@
 """A corpus of small logs and what the program is to print for each, by a plain listing of every cut.
 
 Logs have 1 to 4 stations, up to 8 events and questions nested up to 5 deep; about two in five are damaged in a way that document 01
-names. Some more meet its limits: 16 cuts, structures and bars, over 65,535 rounds, 65 rounds a start, 0 and 9 stations.
+names. Some more meet its limits: 16 cuts, structures and bars, over 65,535 rounds, 65 rounds a start, 0 and 9 stations; and some ask
+about ranges through zero.
 """
+from itertools import islice
+
 from frames import ONE, Draw, atom, case, computation, drawn_atom, formula, log_of, word
 from listing import encode, printed
 
-LOGS, EDGES, ENDS = 4600, 80, 12
+LOGS, EDGES, ENDS, ZERO = 4800, 80, 12, 200
 
 
 def moments(d, seen):
@@ -185,13 +188,31 @@ def ends(d):
             yield log_of(fs)
 
 
+def about(d, s, v):
+    """Ranges of a station through zero that have a value as their end, or as the last one outside, or that hold every value."""
+    below, above = d.below(max(v, 1)), v + 1 + d.below(max(65535 - v, 1))
+    ends = [(v, below), (v + 1, below), (above, v), (above, v - 1), (v, v - 1), (v + 1, v)]
+    return [atom(s, lo, hi) for lo, hi in ends if 0 <= hi < lo <= 65535]
+
+
+def through_zero(d):
+    """Logs without end, one for each value of each station: the ranges about it as true and as false, and some joined with others."""
+    while True:
+        fs, seen = computation(d, 1 + d.below(3), d.below(7), 4, 3, d.pick([1, 255, 21845]))
+        ranges = [about(d, s, v) for s, values in enumerate(seen) for v in sorted(set(values))]
+        for r in ranges:
+            both = r + [[2] + a for a in r]
+            more = [d.pick([[3], [4], [5, 3], [6, 4], [2, 3], [2, 4]]) + d.pick(both) + d.pick(d.pick(ranges)) for _ in range(16 - len(both))]
+            yield log_of(fs + [[0x30] + q for q in both + more])
+
+
 def logs(seed):
     d = Draw(seed)
     yield b""
     yield b"\n"
     yield b"0" * 8192 + b"\n"
     yield encode(ONE) * 3
-    for _ in range(LOGS - 5 - 3 * EDGES - 6 * ENDS):
+    for _ in range(LOGS - 5 - 3 * EDGES - 6 * ENDS - ZERO):
         fs, way = frames(d), d.below(10)
         if way < 3:
             fs = damaged(d, fs)
@@ -199,6 +220,7 @@ def logs(seed):
         yield spoiled(d, log) if way == 9 else log
     yield from edges(d)
     yield from ends(d)
+    yield from islice(through_zero(d), ZERO)
     yield encode(ONE)[:-1]
 
 

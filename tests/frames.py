@@ -73,9 +73,9 @@ def formula(d, n, depth, top=4):
     return [t] + [b for _ in range(2 if t in (3, 4) else 1) for b in formula(d, n, depth - 1, top)]
 
 
-def computation(d, n, events, values, messages):
+def computation(d, n, events, values, messages, step=1):
     """Header and events of n stations with so many values, one event in so many with a message; and the values seen at each station."""
-    seen = [[d.below(values)] for _ in range(n)]
+    seen = [[d.below(values) * step] for _ in range(n)]
     frames = [[0x10, n] + [b for vs in seen for b in word(vs[0])]]
     last = [[0] * n for _ in range(n)]
     for _ in range(events):
@@ -85,6 +85,6 @@ def computation(d, n, events, values, messages):
             clock = list(map(max, clock, last[d.below(n)]))
         clock[s] = last[s][s] + 1
         last[s] = clock
-        seen[s].append(d.below(values))
+        seen[s].append(d.below(values) * step)
         frames.append([0x20, s] + word(seen[s][-1]) + clock)
     return frames, seen

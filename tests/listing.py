@@ -41,6 +41,11 @@ def contained(c, d):
     return all(x <= y for x, y in zip(c, d))
 
 
+def within(lo, hi, v):
+    """Is a value in a range? One whose lo is above hi holds for values from lo up and for values up to hi."""
+    return lo <= v <= hi if lo <= hi else v >= lo or v <= hi
+
+
 def parse(q, at=0):
     """The formula at a place of a question, and where it ends; None where there is none."""
     if at >= len(q):
@@ -120,7 +125,7 @@ def admit(log, f):
         if log.initial is None or len(log.questions) >= QUESTIONS:
             raise Refused(4)
         got = parse(body)
-        if got is None or got[1] != len(body) or any(a[1] >= n or a[2] > a[3] for a in atoms(got[0])):
+        if got is None or got[1] != len(body) or any(a[1] >= n for a in atoms(got[0])):
             raise Refused(8)
         seen = []
         size(got[0], True, seen)
@@ -210,7 +215,7 @@ class Listing(Walk):
         """The cuts at which a formula is true."""
         t = f[0]
         if t == 1:
-            return [c for c in self.cuts if f[2] <= self.log.value(f[1], c[f[1]]) <= f[3]]
+            return [c for c in self.cuts if within(f[2], f[3], self.log.value(f[1], c[f[1]]))]
         one = set(self.true(f[1]))
         if t == 2:
             return [c for c in self.cuts if c not in one]
@@ -240,7 +245,7 @@ class Listing(Walk):
         return self.kept([c for c in left[0] if c in both], left[1] + right[1])
 
     def atom(self, s, lo, hi, sign):
-        return self.kept([c for c in self.cuts if (lo <= self.log.value(s, c[s]) <= hi) == sign], [])
+        return self.kept([c for c in self.cuts if within(lo, hi, self.log.value(s, c[s])) == sign], [])
 
     def below(self, s):
         return self.kept([c for c in self.cuts if contained(c, s[2])], [])

@@ -14,7 +14,7 @@ import tempfile
 import time
 
 from bases import Rule, few
-from bench_cases import ALL, BENCH, HEAD, HEADER, WIDE18, chain, ladder
+from bench_cases import ALL, BENCH, HEAD, HEADER, WIDE18, ZERO, chain, ladder
 from frames import Draw, atom, log_of, word
 from listing import LOG, Refused, answer_line, atoms, contained, encode, printed, read, size, tokens
 
@@ -124,6 +124,7 @@ def files():
     yield "width 18", WIDE18, refusal(9, 5)
     yield "ladder of 3 stations", ladder(3, 24), None
     yield "ladder of 8 stations", ladder(8, 127), None
+    yield "ranges through zero", ZERO, None
     yield from examples()
 
 

@@ -1,5 +1,5 @@
 //! The basis in plain Rust: cuts handed on by value, a row an Option, a structure its rows by station.
-use compare::formula::{Token, Tokens};
+use compare::formula::{within, Token, Tokens};
 use compare::log::{contained, Cut, Log};
 use compare::operations::{answer_line, printed_by};
 
@@ -60,7 +60,7 @@ impl Plain<'_> {
         match (f.take(), sign) {
             (Token::Range { station, lo, hi }, _) => {
                 let h = &self.log.history[station];
-                let next = |c: &Cut| (c[station] as usize..h.len()).find(|&k| (lo..=hi).contains(&h[k].value) == sign);
+                let next = |c: &Cut| (c[station] as usize..h.len()).find(|&k| within(lo, hi, h[k].value) == sign);
                 self.build(vec![], |_, c| next(c).map(|k| join(c, &h[k].clock))).into_iter().collect()
             }
             (Token::Not, _) => self.basis(f, !sign),

@@ -25,7 +25,7 @@ fn answer(data: &[u8]) -> Vec<u8> {
 /// A log in which a station's value is the number of its events so far, and one question: two values in a row at each station. Each
 /// station has them, and there is no moment at which all have.
 fn never_log(stations: usize, events: usize) -> Vec<u8> {
-    let shape = Shape { stations, events, questions: 0, ranges: 0, step: 0 };
+    let shape = Shape { stations, events, questions: 0, ranges: 0, step: 0, zero: 0 };
     let log = |seed| {
         let d = &mut Draw(seed);
         let mut fs = vec![made::header(d, shape)];

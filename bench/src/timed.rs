@@ -92,7 +92,7 @@ impl Row {
 /// A log with questions of width 16, one event in three of which has seen another station. A shorter one is the beginning of a longer.
 pub fn wide_log(stations: usize, events: usize, questions: usize) -> Vec<u8> {
     let (d, asked) = (&mut Draw(0), &mut Draw(1));
-    let shape = Shape { stations, events, questions: 0, ranges: 0, step: 1 };
+    let shape = Shape { stations, events, questions: 0, ranges: 0, step: 1, zero: 0 };
     let mut fs = vec![made::header(d, shape)];
     fs.extend(made::events(d, shape, 3));
     fs.extend((0..questions).map(|_| [vec![0x30], made::product(asked, shape, &[2, 2, 2, 2])].concat()));

@@ -95,8 +95,8 @@ impl Formula<'_> {
         self.tokens += 1;
         let (width, bars) = match (token, sign) {
             (1, _) => {
-                let (&[station, a, b, c, d], rest) = rest.split_first_chunk()?;
-                if station as usize >= self.stations || word(a, b) > word(c, d) {
+                let (&[station, _, _, _, _], rest) = rest.split_first_chunk()?;
+                if station as usize >= self.stations {
                     return None;
                 }
                 self.rest = rest;

@@ -9,7 +9,7 @@
 use super::cut::{contained, count, join, Cut, NONE};
 use super::read::Log;
 
-/// The cuts where a station's value is from lo to hi, or is not.
+/// The cuts where a station's value is from lo to hi, through zero if lo is above hi, or is not.
 #[derive(Clone, Copy)]
 pub struct Range {
     pub station: usize,
@@ -23,7 +23,7 @@ impl Range {
     pub const ALL: Self = Range { station: 0, lo: 0, hi: u16::MAX, sign: true };
 
     pub fn has(&self, value: u16) -> bool {
-        (value.wrapping_sub(self.lo) <= self.hi - self.lo) == self.sign
+        (value.wrapping_sub(self.lo) <= self.hi.wrapping_sub(self.lo)) == self.sign
     }
 }
 

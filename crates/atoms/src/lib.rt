@@ -1,7 +1,6 @@
 // What stands at the front of a question's bytes, told for a token that is no sign: an atom's, or unknown.
 use extents::Extent;
-ghost use mathlib.Core.Path.{_≡_};
-ghost use mathlib.Core.Bool.{Bool, _&&_};
+ghost use mathlib.Core.Bool.{Bool};
 ghost use mathlib.Core.List.{_∷_};
 ghost use Prim.Native.Nat.{_<_};
 ghost use Rattle.atoms.specs.Measured.{Measured};
@@ -22,14 +21,7 @@ pub enum Front {
     Formula(Size),
 }
 
-// Whether both hold.
-pub fn and(a: bool, b: bool) -> bool
-    ensures { λ r. ⌜ r ≡ (a && b) ⌝ }
-{
-    a && b
-}
-
-// 01 before `rest`: five bytes of it are its station, lo and hi.
+// 01 before `rest`: five bytes of it are its station, lo and hi, which may be any.
 fn range(rest: &[u8], n: usize) -> Front
     ensures { λ r. ⌜ ((s : Bool) → Measured n s (1 ∷ now (rest .entry)) r) ⌝ }
 {
@@ -37,13 +29,11 @@ fn range(rest: &[u8], n: usize) -> Front
         return Front::Nothing;
     }
     let s = rest[0] as usize;
-    let lo = cells::word(rest, 1);
-    let hi = cells::word(rest, 3);
     Front::Formula(Size {
         used: 6,
         tokens: 1,
         atoms: 1,
-        sound: and(s < n, lo <= hi),
+        sound: s < n,
         extent: Extent::Narrow(1, 0),
     })
 }

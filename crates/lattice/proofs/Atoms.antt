@@ -5,10 +5,9 @@ use Prim.Native.Nat.{ℕ}
 use mathlib.Core.Bool.{Bool, true, false}
 use mathlib.Core.Option.{Option}
 use mathlib.Core.List.{[]}
-use Rattle.model.specs.Lists.{between}
 use Rattle.model.specs.Cut.{Cut, _⊑_, insideAny}
 use Rattle.model.specs.Computation.{Computation, Consistent, value}
-use Rattle.model.specs.Atom.{Atom, isTrue, raiseTo, passes, raiseAtom}
+use Rattle.model.specs.Atom.{Atom, within, isTrue, raiseTo, passes, raiseAtom}
 use Rattle.model.specs.Atom.Atom.{inRange}
 use Rattle.model.specs.Structure.{build}
 use Rattle.lattice.proofs.Valid.{Valid}
@@ -17,10 +16,10 @@ use Rattle.lattice.proofs.Structures.{Least, Regular}
 use Rattle.lattice.proofs.Bases.{IsBasis, basis-iff, build-basis}
 use Rattle.lattice.proofs.Sets.{Passes, passes-regular, passes-least}
 
-passes-iff : (b : Bool) (lo hi v : ℕ) → (passes b lo hi v ≡ true) ↔ (between lo hi v ≡ b)
+passes-iff : (b : Bool) (lo hi v : ℕ) → (passes b lo hi v ≡ true) ↔ (within lo hi v ≡ b)
 unfolding passes
 passes-iff true lo hi v = (λ h. h, λ h. h)
-passes-iff false lo hi v = not-true (between lo hi v)
+passes-iff false lo hi v = not-true (within lo hi v)
 
 module _ (K : Computation) (ok : Valid K) where
   -- What build makes of a function that finds the least cuts of a set, with no bars.

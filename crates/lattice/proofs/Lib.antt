@@ -16,6 +16,7 @@ pub mod Shortcuts
 pub mod Joins
 pub mod Starts
 pub mod Steps
+pub mod Ranges
 pub mod Atoms
 pub mod Theorem
 pub mod Tops

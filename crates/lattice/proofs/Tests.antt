@@ -48,6 +48,13 @@ and-iff a b p q = (
   λ h. and-true a b .1 (p .1 (h .0), q .1 (h .1)),
 )
 
+-- Of two tests joined by "or" one says so.
+pub or-iff : {P Q : Type 0} (a b : Bool) → (a ≡ true) ↔ P → (b ≡ true) ↔ Q → (a || b ≡ true) ↔ (P ⊎ Q)
+or-iff a b p q = (
+  λ h. elim (or-true a b .0 h) [ inl t ↦ inl (p .0 t) | inr t ↦ inr (q .0 t) ],
+  λ h. or-true a b .1 (elim h [ inl t ↦ inl (p .1 t) | inr t ↦ inr (q .1 t) ]),
+)
+
 pub leb-iff : (a b : ℕ) → (leb a b ≡ true) ↔ (a ≤ b)
 leb-iff a b = (leb-true a b, le-leb a b)
 

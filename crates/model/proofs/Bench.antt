@@ -10,7 +10,7 @@ use Rattle.model.specs.Limits.{limits, workspaceSize, barspaceSize}
 use Rattle.model.specs.Lists.{sum, between, every}
 use Rattle.model.specs.Bytes.{push, linesOf, digit, byte, bytes, carried, items, hexDigit, hex, checkByte, line}
 use Rattle.model.specs.Frames.{word, words, listOf}
-use Rattle.model.specs.Atom.{atomBytes, operands, atomOf, soundAtom, next, upTo, raiseTo, passes, raiseAtom}
+use Rattle.model.specs.Atom.{atomBytes, operands, atomOf, soundAtom, within, next, upTo, raiseTo, passes, raiseAtom}
 use Rattle.model.specs.Atom.Atom.{inRange}
 use Rattle.model.specs.Formula.{Formula, prefix, ahead, one, two, sign, token, spelt, formulasIn, single, formulaOf, sound, weigh}
 use Rattle.model.specs.Formula.Formula.{atom, not, and, or, possibly, always}
@@ -70,7 +70,7 @@ three-ways = or (range 0 5 5) two-ways
 
 -- All that is computed with: to unfold this is to unfold what its line names.
 definitions : Unit {0}
-unfolding ascii range bench Q asking holdsAt two-ways three-ways sum between every push linesOf digit byte bytes carried items hexDigit hex checkByte line word words listOf atomBytes operands atomOf soundAtom next upTo raiseTo passes raiseAtom prefix ahead one two sign token spelt formulasIn single formulaOf sound weigh inside insideAny join clock value known isConsistent counted clockOk asTrue asFalse width bars slim narrow fits row joined raiseBy raise reaches inSet belongs belongsAny joinRow joinRows greatest keep buildOn build thenRight round onward after run start intersect each pairs below lowered barred basis roundsOfPair roundsOfPairs rounds notInside add tops precedes insert sort trueAt answer inRow fourBytes answerLine refusalLine begun check headerForm opened admitHeader eventForm extended unasked admitEvent asked admitQuestion admit finish proceed readItems readLog readEffect readOp posing openingOf opening cramped holdsReplyTo holdsOp answerLines printedOf printed
+unfolding ascii range bench Q asking holdsAt two-ways three-ways sum between every push linesOf digit byte bytes carried items hexDigit hex checkByte line word words listOf atomBytes operands atomOf soundAtom within next upTo raiseTo passes raiseAtom prefix ahead one two sign token spelt formulasIn single formulaOf sound weigh inside insideAny join clock value known isConsistent counted clockOk asTrue asFalse width bars slim narrow fits row joined raiseBy raise reaches inSet belongs belongsAny joinRow joinRows greatest keep buildOn build thenRight round onward after run start intersect each pairs below lowered barred basis roundsOfPair roundsOfPairs rounds notInside add tops precedes insert sort trueAt answer inRow fourBytes answerLine refusalLine begun check headerForm opened admitHeader eventForm extended unasked admitEvent asked admitQuestion admit finish proceed readItems readLog readEffect readOp posing openingOf opening cramped holdsReplyTo holdsOp answerLines printedOf printed
 definitions = tt
 
 -- The twelve cases marked *.
@@ -102,6 +102,16 @@ pub more :
     × (printed (asking (and (and three-ways three-ways) two-ways)) ≡ ascii "50090005A2\n")
 unfolding definitions
 more = (refl, refl, refl, refl, refl, refl, refl)
+
+-- Ranges through zero: a value at either end and one outside, as true and as false; every value, and none, where lo is one above hi.
+pub through-zero :
+    (printed (asking (range 1 2 0)) ≡ ascii "400101010200000000BB\n")
+    × (printed (asking (not (range 1 2 0))) ≡ ascii "400001010100000000BD\n")
+    × (printed (asking (always (range 1 2 0))) ≡ ascii "400001010200000000BC\n")
+    × (printed (asking (range 0 5 4)) ≡ ascii "400101010200000000BB\n")
+    × (printed (asking (not (range 0 5 4))) ≡ ascii "40000000000000C0\n")
+unfolding definitions
+through-zero = (refl, refl, refl, refl, refl)
 
 -- What is promised of accepted logs and their questions is promised of this one.
 pub bench-asked : Asked limits (asking Q) 0 benched Q

@@ -1,6 +1,6 @@
 -- Atoms, the tokens of a formula that are no signs: their bytes, when one is true, and how a cut is raised to one at which it is.
 use Prim.Native.Nat.{ℕ, zero, suc, _-_, _/_, _%_}
-use mathlib.Core.Bool.{Bool, true, false, cond, not, _&&_}
+use mathlib.Core.Bool.{Bool, true, false, cond, not, _||_}
 use mathlib.Core.List.{List, [], _∷_}
 use mathlib.Core.Option.{Option, none, some}
 use lib.ListN.{drop, getD}
@@ -11,7 +11,7 @@ use Rattle.model.specs.Cut.{Cut, _!_, join}
 use Rattle.model.specs.Computation.{Computation, count, clock, value}
 
 pub data Atom : Type 0 where
-  -- 01, station, lo, hi: the station's value is from lo to hi
+  -- 01, station, lo, hi: the station's value is in the range from lo to hi
   inRange : ℕ → ℕ → ℕ → Atom
 
 -- BYTES
@@ -28,15 +28,19 @@ operands t = cond (eqb t 0x01) (some 5) none
 unfoldable pub atomOf : ℕ → List ℕ → Atom
 atomOf t q = inRange (getD q 0 0) (word (drop 1 q)) (word (drop 3 q))
 
--- Of n stations each that is named is there, and lo is not above hi.
+-- Of n stations each that is named is there.
 unfoldable pub soundAtom : ℕ → Atom → Bool
-soundAtom n (inRange s lo hi) = ltb s n && leb lo hi
+soundAtom n (inRange s lo hi) = ltb s n
 
 -- TRUTH
 
+-- Does a range hold for a value? One whose lo is above hi holds for values from lo up and for values up to hi.
+unfoldable pub within : ℕ → ℕ → ℕ → Bool
+within lo hi v = cond (leb lo hi) (between lo hi v) (leb lo v || leb v hi)
+
 -- Is the atom true at the cut? If not, it is false there.
 unfoldable pub isTrue : Computation → Atom → Cut → Bool
-isTrue K (inRange s lo hi) c = between lo hi (value K s (c ! s))
+isTrue K (inRange s lo hi) c = within lo hi (value K s (c ! s))
 
 -- RAISING: the least consistent cut that contains c and at which an atom is true, or false; or none
 
@@ -56,8 +60,8 @@ raiseTo K s p c = upTo K s c (next p (suc (count K s) - c ! s) (c ! s))
 
 -- Does a value pass a range, as true or as false?
 unfoldable pub passes : Bool → ℕ → ℕ → ℕ → Bool
-passes true lo hi v = between lo hi v
-passes false lo hi v = not (between lo hi v)
+passes true lo hi v = within lo hi v
+passes false lo hi v = not (within lo hi v)
 
 -- For an atom as true, or as false: 01 looks for a value of its station.
 unfoldable pub raiseAtom : Computation → Bool → Atom → Cut → Option Cut

@@ -1,13 +1,12 @@
 // Whether a question's bytes are exactly one formula, with sound atoms and its size within the limits.
 use atoms::Front;
 use atoms::Size;
-use atoms::and;
 use atoms::leaf;
 use extents::Extent;
 use extents::join;
 use extents::lift;
 ghost use mathlib.Core.Path.{_≡_};
-ghost use mathlib.Core.Bool.{Bool, not};
+ghost use mathlib.Core.Bool.{Bool, not, _&&_};
 ghost use mathlib.Core.List.{List, _∷_};
 ghost use Prim.Native.Nat.{ℕ, _≤_, _<_};
 ghost use lib.ListN.{length, drop};
@@ -22,6 +21,13 @@ pub enum Verdict {
     Fine,
     Malformed,
     TooLarge,
+}
+
+// Whether both hold.
+fn and(a: bool, b: bool) -> bool
+    ensures { λ r. ⌜ r ≡ (a && b) ⌝ }
+{
+    a && b
 }
 
 // A size with one token more in front.

@@ -1,12 +1,10 @@
--- 01: the three cases of a value, and a table of the values that stand there, which leads to the rows of its raising function.
+-- 01: a table of the values that stand there leads to the rows of its raising function.
 use mathlib.Core.Path.{_≡_, sym, ap, _∙_}
 use Prim.Native.Nat.{ℕ, _+_, _*_, _≤_, _<_}
 use native.Mathlib.Omega.{arith}
 use mathlib.Core.List.{List}
-use mathlib.Core.Bool.{Bool, true, false, not}
+use mathlib.Core.Bool.{Bool}
 use lib.ListN.{length, getD}
-use borrow.Author.Tests.{le-leb, lt-leb}
-use Rattle.model.specs.Lists.{between}
 use Rattle.model.specs.Computation.{Computation, count, value}
 use Rattle.model.specs.Atom.{passes, raiseAtom}
 use Rattle.model.specs.Atom.Atom.{inRange}
@@ -14,25 +12,6 @@ use Rattle.structure.specs.declared.Shape.{Shape}
 use Rattle.structure.specs.Laid.{Laid, Facts}
 use Rattle.steps.specs.Rows.{entry, Tabled, Leads}
 use Rattle.steps.proofs.Atoms as atoms
-
--- A VALUE
-
-pub passes-low : (b : Bool) (lo hi v : ℕ) → v < lo → not b ≡ passes b lo hi v
-unfolding passes between
-passes-low true lo hi v h = rw (lt-leb lo v h)
-passes-low false lo hi v h = rw (lt-leb lo v h)
-
-pub passes-high : (b : Bool) (lo hi v : ℕ) → lo ≤ v → hi < v → not b ≡ passes b lo hi v
-unfolding passes between
-passes-high true lo hi v h k = rw (le-leb lo v h, lt-leb v hi k)
-passes-high false lo hi v h k = rw (le-leb lo v h, lt-leb v hi k)
-
-pub passes-in : (b : Bool) (lo hi v : ℕ) → lo ≤ v → v ≤ hi → b ≡ passes b lo hi v
-unfolding passes between
-passes-in true lo hi v h k = rw (le-leb lo v h, le-leb v hi k)
-passes-in false lo hi v h k = rw (le-leb lo v h, le-leb v hi k)
-
--- THE TABLE
 
 module _ (K : Computation) (shape : Shape) (starts : List ℕ) (laid : Laid K shape starts) (s : ℕ) (h : s < shape .n)
     (values : List ℕ) (facts : Facts K shape values) where

@@ -20,7 +20,7 @@ ghost use Rattle.structure.specs.Layout.{standing};
 ghost use Rattle.structure.specs.Laid.{Laid, Facts};
 ghost use Rattle.steps.specs.Rows.{rowAt, entry, eventRow, joinedRow, atomRow, Tabled, Leads, Ended};
 
-// A station and a range of its values, ends included.
+// A station and a range of its values, ends included; through zero where lo is above hi.
 pub struct Interval {
     pub station: usize,
     pub lo: u16,
@@ -63,19 +63,6 @@ pub fn end_bars(bs: &mut [u8], at: usize, count: usize, n: usize)
     }
 }
 
-// Does a value pass a range, as true or as false?
-fn passing(sign: bool, lo: u16, hi: u16, v: u16) -> bool
-    ensures { λ r. ⌜ r ≡ passes sign lo hi v ⌝ }
-{
-    if v < lo {
-        return !sign;
-    }
-    if hi < v {
-        return !sign;
-    }
-    sign
-}
-
 // The table of a station whose values stand from at on: entry k is the first count from k on whose value passes, or 255.
 fn fill_table(
     table: &mut [u8],
@@ -93,7 +80,7 @@ fn fill_table(
     let mut k = count + 1;
     while 0 < k {
         k -= 1;
-        if passing(sign, lo, hi, values[at + k]) {
+        if ranges::passes(sign, lo, hi, values[at + k]) {
             last = k as u8;
         }
         table[k] = last;

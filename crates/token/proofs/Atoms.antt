@@ -4,13 +4,12 @@ use Prim.Native.Nat.{ℕ, _+_, _*_, _≤_, _<_}
 use native.Mathlib.Omega.{arith}
 use native.Mathlib.Nat.{div-add-mod'}
 use mathlib.Core.List.{List, _++_}
-use mathlib.Core.Bool.{true, _&&_}
-use lib.Dec.{ltb, leb}
+use mathlib.Core.Bool.{true}
+use lib.Dec.{ltb}
 use lib.ListN.{length, getD}
 use borrow.Author.Tests.{ltb-true}
 use Rattle.model.specs.Atom.{Atom, atomBytes, soundAtom}
 use Rattle.model.specs.Atom.Atom.{inRange}
-use Rattle.lattice.proofs.Tests.{and-true}
 
 -- TOKENS
 
@@ -62,5 +61,5 @@ at-range q (inRange s lo hi) rest e k =
 pub range-station : (n : ℕ) (q : List ℕ) (a : Atom) → Range q a → soundAtom n a ≡ true → getD q 1 0 < n
 unfolding soundAtom
 range-station n q a r h =
-    let g : ltb (r .station) n && leb (r .low) (r .high) ≡ true = sym (ap (soundAtom n) (r .is)) ∙ h in
-    omega (arith, r .station-is, ltb-true (r .station) n (and-true (ltb (r .station) n) (leb (r .low) (r .high)) .0 g .0))
+    let g : ltb (r .station) n ≡ true = sym (ap (soundAtom n) (r .is)) ∙ h in
+    omega (arith, r .station-is, ltb-true (r .station) n g)

@@ -1,5 +1,5 @@
 //! The basis, with rows of fixed size worked on in place.
-use crate::formula::{Token, Tokens};
+use crate::formula::{within, Token, Tokens};
 use crate::log::{contained, Cut, Log};
 
 /// A row that is none has 255 at station 0.
@@ -119,7 +119,7 @@ impl<'a> Worker<'a> {
     pub fn basis(&mut self, f: &mut Tokens, sign: bool) -> Vec<Structure> {
         let mut out = Vec::new();
         match (f.take(), sign) {
-            (Token::Range { station, lo, hi }, _) => out.push(self.range(station, |v| (lo <= v && v <= hi) == sign)),
+            (Token::Range { station, lo, hi }, _) => out.push(self.range(station, |v| within(lo, hi, v) == sign)),
             (Token::Not, _) => out = self.basis(f, !sign),
             (Token::And, true) | (Token::Or, false) => {
                 let (left, right) = (self.basis(f, sign), self.basis(f, sign));

@@ -10,6 +10,7 @@ use crate::made::{self, Shape};
 use crate::operations::{self as here, answer_line, BARS, LINE, WORKSPACE};
 use crate::peak::{Peak, Peaks};
 use crate::proved::{self, Reply};
+use crate::zero::Zeros;
 use std::fmt::Debug;
 
 /// What a seed gives: a log and a frame list, and the draws that follow.
@@ -25,7 +26,7 @@ fn shape(d: &mut Draw) -> Shape {
         1 => (1 + d.below(8), d.below(40), d.below(6), 8),
         _ => (1 + d.below(4), d.below(9), d.below(4), 1 + d.below(6)),
     };
-    Shape { stations, events, questions, ranges, step: d.pick(&[1, 1, 255, 21845]) }
+    Shape { stations, events, questions, ranges, step: d.pick(&[1, 1, 255, 21845]), zero: d.pick(&[0, 2, 4]) }
 }
 
 /// Frames of any shape, damaged or not.
@@ -89,7 +90,8 @@ impl Lent {
     }
 }
 
-/// What was seen: calls, accepted logs, Holds' no and yes, answers that list no, one and several cuts, each fault, and peaks.
+/// What was seen: calls, accepted logs, Holds' no and yes, answers that list no, one and several cuts, each fault, peaks, and ranges
+/// through zero.
 pub struct Counts {
     pub calls: usize,
     pub accepted: usize,
@@ -97,11 +99,12 @@ pub struct Counts {
     pub answers: [usize; 3],
     pub faults: [usize; 256],
     pub peaks: Peaks,
+    pub zeros: Zeros,
 }
 
 impl Counts {
     pub fn new() -> Self {
-        Counts { calls: 0, accepted: 0, holds: [0; 2], answers: [0; 3], faults: [0; 256], peaks: Peaks::default() }
+        Counts { calls: 0, accepted: 0, holds: [0; 2], answers: [0; 3], faults: [0; 256], peaks: Peaks::default(), zeros: Zeros::default() }
     }
 
     fn meet_log(&mut self, log: &Log, bytes: usize) {
@@ -265,6 +268,7 @@ pub fn compare(case: Case, counts: &mut Counts) {
         let mut worker = Worker::new(&log);
         worker.basis(&mut Tokens(f), true);
         calls.counts.meet_question(f, &worker, cuts_listed(&line));
+        calls.counts.zeros.meet(&log, &mut Tokens(f), true);
         if listing::count(&log) <= 400 {
             calls.listed(&log, q, &line, worker.rounds);
         } else {

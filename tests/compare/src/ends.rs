@@ -155,7 +155,7 @@ fn longest(d: &mut Draw, s: Shape) -> Vec<u8> {
 
 /// The longest log that there is.
 fn full(d: &mut Draw) -> Frames {
-    let s = Shape { stations: 8, events: 127, questions: 0, ranges: 0, step: d.pick(&[1, 255, 21845]) };
+    let s = Shape { stations: 8, events: 127, questions: 0, ranges: 0, step: d.pick(&[1, 255, 21845]), zero: 0 };
     let mut fs = made::frames(d, s);
     fs.extend((0..16).map(|_| longest(d, s)));
     fs
@@ -163,7 +163,7 @@ fn full(d: &mut Draw) -> Frames {
 
 /// A good header but for its station count, 0 or 9, and frames that go with 9 or another one.
 fn miscounted(d: &mut Draw) -> Frames {
-    let s = Shape { stations: d.pick(&[1, 8, 9, 9]), events: d.below(9), questions: d.below(3), ranges: 3, step: 1 };
+    let s = Shape { stations: d.pick(&[1, 8, 9, 9]), events: d.below(9), questions: d.below(3), ranges: 3, step: 1, zero: 0 };
     let mut fs = made::frames(d, s);
     if s.stations < 9 {
         fs[0] = vec![0x10, 0];

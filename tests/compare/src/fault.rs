@@ -31,7 +31,6 @@ pub enum Fault {
     BytesAfterFormula,
     UnknownToken,
     FormulaStation,
-    LoAboveHi,
     TokensOver32 = 0x90,
     RangesOver12,
     WidthOver16,
@@ -48,10 +47,10 @@ pub enum Fault {
     LengthPastEnd,
 }
 
-pub const ALL: [Fault; 41] = [
+pub const ALL: [Fault; 40] = [
     LogOver8192, NoEndOfLine, OddDigits, NotADigit, LineUnder2, LineOver100, CheckByte, UnknownKind, NoHeader, SecondHeader,
     EventAfterQuestion, Event128, Question17, EmptyLog, HeaderLength, NoStation, StationsOver8, EventLength, EventStation, OwnEntry, EntryNotRead,
-    ClockAbove, FormulaEnds, BytesAfterFormula, UnknownToken, FormulaStation, LoAboveHi, TokensOver32, RangesOver12, WidthOver16, BarsOver16,
+    ClockAbove, FormulaEnds, BytesAfterFormula, UnknownToken, FormulaStation, TokensOver32, RangesOver12, WidthOver16, BarsOver16,
     NoSuchQuestion, Workspace, BarSpace, Output, CutLength, NotConsistent, ListOver4096, LengthZero, LengthOver99, LengthPastEnd,
 ];
 

@@ -30,10 +30,15 @@ fn range(operands: &[u8], stations: usize) -> Result<Token, Fault> {
     if station >= stations {
         return Err(Fault::FormulaStation);
     }
-    if lo > hi {
-        return Err(Fault::LoAboveHi);
-    }
     Ok(Range { station, lo, hi })
+}
+
+/// Whether a range holds a value. Where lo is above hi it goes through zero: from lo up, and up to hi.
+pub fn within(lo: u16, hi: u16, v: u16) -> bool {
+    if lo <= hi {
+        return lo <= v && v <= hi;
+    }
+    lo <= v || v <= hi
 }
 
 /// The tokens of exactly one formula.

@@ -11,3 +11,4 @@ pub mod made;
 pub mod operations;
 pub mod peak;
 pub mod proved;
+pub mod zero;

@@ -31,7 +31,8 @@ pub fn truth(log: &Log, cuts: &[Cut], f: &mut Tokens) -> Vec<bool> {
     let above = |i: usize, p: &dyn Fn(usize) -> bool| (i..cuts.len()).any(|k| contained(&cuts[i], &cuts[k]) && p(k));
     let token = f.take();
     if let Token::Range { station, lo, hi } = token {
-        return each(&|i| (lo..=hi).contains(&log.history[station][cuts[i][station] as usize].value));
+        let value = |i: usize| log.history[station][cuts[i][station] as usize].value;
+        return each(&|i| if lo > hi { !(hi + 1..lo).contains(&value(i)) } else { (lo..=hi).contains(&value(i)) });
     }
     let a = truth(log, cuts, f);
     if let Token::And | Token::Or = token {

@@ -2,7 +2,7 @@
 use crate::draw::Draw;
 use crate::log::line;
 
-/// How large a log is made. Values are 0 to 3 times the step.
+/// How large a log is made. Values are 0 to 3 times the step; one range in `zero` goes through zero, none if it is 0.
 #[derive(Clone, Copy)]
 pub struct Shape {
     pub stations: usize,
@@ -10,16 +10,26 @@ pub struct Shape {
     pub questions: usize,
     pub ranges: usize,
     pub step: usize,
+    pub zero: usize,
 }
 
 pub fn word(v: usize) -> [u8; 2] {
     (v as u16).to_be_bytes()
 }
 
+/// Lo and hi of a range through zero: each is a value or one beside it, or lo is one above hi.
+fn through_zero(d: &mut Draw, step: usize) -> [usize; 2] {
+    let [a, b] = [0; 2].map(|_| (d.below(4) * step + d.below(3)).clamp(1, 65536) - 1);
+    if a == b || d.below(4) == 0 { [a.max(1), a.max(1) - 1] } else { [a.max(b), a.min(b)] }
+}
+
 pub fn range(d: &mut Draw, s: Shape) -> Vec<u8> {
     let lo = d.below(4);
-    let hi = lo + d.below(4 - lo);
-    [vec![1, d.below(s.stations) as u8], word(lo * s.step).to_vec(), word(hi * s.step).to_vec()].concat()
+    let mut ends = [lo * s.step, (lo + d.below(4 - lo)) * s.step];
+    if s.zero > 0 && d.below(s.zero) == 0 {
+        ends = through_zero(d, s.step);
+    }
+    [vec![1, d.below(s.stations) as u8], word(ends[0]).to_vec(), word(ends[1]).to_vec()].concat()
 }
 
 /// A formula with so many ranges, and a token of one operand before one part in four.

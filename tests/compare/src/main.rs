@@ -22,7 +22,8 @@ fn asked(words: &[String]) -> Result<(u64, u64), String> {
     }
 }
 
-/// What was met too seldom for the run to say much: an outcome or a fault less than ten times in 4,000 logs, a peak less than once.
+/// What was met too seldom for the run to say much: an outcome, a fault or an end of a range through zero less than ten times in 4,000
+/// logs, a peak less than once.
 fn seldom(logs: u64, counts: &Counts) -> Vec<String> {
     let [no, yes] = counts.holds;
     let [none, one, several] = counts.answers;
@@ -30,17 +31,20 @@ fn seldom(logs: u64, counts: &Counts) -> Vec<String> {
     let outcomes = outcomes.into_iter().map(|(name, n)| (name.to_string(), n, 10));
     let faults = ALL.iter().map(|f| (format!("{f:?}"), counts.faults[*f as usize], 10));
     let peaks = WANTED.iter().map(|(p, least)| (format!("{p:?} of {least}"), counts.peaks.of(*p).times, 1));
-    let seen = outcomes.chain(faults).chain(peaks);
+    let zeros = counts.zeros.figures().map(|(name, n)| (format!("through zero {name}"), n, 10));
+    let seen = outcomes.chain(faults).chain(peaks).chain(zeros);
     seen.filter(|(_, n, least)| (*n as u64) < logs / 4000 * least).map(|(name, n, _)| format!("{name} {n}")).collect()
 }
 
 fn report(logs: u64, counts: &Counts) {
-    let Counts { calls, accepted, holds, answers, faults, peaks } = counts;
+    let Counts { calls, accepted, holds, answers, faults, peaks, zeros } = counts;
     let refused: Vec<usize> = faults.chunks(16).map(|kinds| kinds.iter().sum()).collect();
     let reached: Vec<String> = WANTED.iter().map(|(p, _)| format!("{p:?} {} ({})", peaks.of(*p).most, peaks.of(*p).times)).collect();
     println!("{logs} logs, {accepted} accepted, {calls} calls, all equal");
     println!("Holds no and yes: {holds:?}; answers with no, one, several cuts: {answers:?}; refusals 1 to 14: {:?}", &refused[1..15]);
     println!("peaks (and how often what is wanted): {}", reached.join(", "));
+    let tried: Vec<String> = zeros.figures().map(|(name, n)| format!("{name} {n}")).collect();
+    println!("ranges through zero, tried {}", tried.join(", "));
     if logs < 4000 {
         println!("under 4000 logs: how often each was met is not judged");
     }

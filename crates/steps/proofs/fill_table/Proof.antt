@@ -31,17 +31,17 @@ loop-holds c =
 sub-k : tie.Need-sub-k Inv-loop μ-loop
 sub-k c = search needs
 
-add-passing : tie.Need-add-passing Inv-loop μ-loop
-add-passing c = search needs
+add-passes : tie.Need-add-passes Inv-loop μ-loop
+add-passes c = search needs
 
-mul-passing : tie.Need-mul-passing Inv-loop μ-loop
-mul-passing c = search needs
+mul-passes : tie.Need-mul-passes Inv-loop μ-loop
+mul-passes c = search needs
 
-shared-slice-read-passing : tie.Need-shared-slice-read-passing Inv-loop μ-loop
-shared-slice-read-passing c = search needs
+shared-slice-read-passes : tie.Need-shared-slice-read-passes Inv-loop μ-loop
+shared-slice-read-passes c = search needs
 
-passing-requires : tie.Need-passing-requires Inv-loop μ-loop
-passing-requires c κs = search needs
+passes-requires : tie.Need-passes-requires Inv-loop μ-loop
+passes-requires c κs = search needs
 
 cast-last : tie.Need-cast-last Inv-loop μ-loop
 cast-last c = search needs
@@ -61,8 +61,8 @@ loop-again c =
     let h : v .k - 1 ≤ a .count = omega arith in
     let f : c .if1 .last ≡ entry p (a .count) (v .k - 1) =
     ⊎-elim
-    (λ w. w .1 ∙ laws.entry-hit p (a .count) (v .k - 1) h (sym (c .before .passing .ensures) ∙ w .0 .taken))
-    (λ w. w .1 ∙ v .inv .2 ∙ ap (entry p (a .count)) e ∙ laws.entry-miss p (a .count) (v .k - 1) h (sym (c .before .passing .ensures) ∙ w .0 .left))
+    (λ w. w .1 ∙ laws.entry-hit p (a .count) (v .k - 1) h (sym (c .before .passes .ensures) ∙ w .0 .taken))
+    (λ w. w .1 ∙ v .inv .2 ∙ ap (entry p (a .count)) e ∙ laws.entry-miss p (a .count) (v .k - 1) h (sym (c .before .passes .ensures) ∙ w .0 .left))
     (c .if1 .came) in
     (omega arith, simp length-set (v .inv .1), f, laws.table-more (entry p (a .count)) (v .table) (v .k - 1) (c .if1 .last) (v .inv .1) (omega arith) f (λ j g l. v .inv .3 j (omega arith) l))
 
@@ -82,10 +82,10 @@ fill-table-spec =
     add-k
     loop-holds
     sub-k
-    add-passing
-    mul-passing
-    shared-slice-read-passing
-    passing-requires
+    add-passes
+    mul-passes
+    shared-slice-read-passes
+    passes-requires
     cast-last
     slice-write-table
     loop-less
