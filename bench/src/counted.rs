@@ -33,7 +33,7 @@ fn instructions(program: &[&str], log: &str) -> (String, u64) {
     (printed, line.rsplit(' ').next().unwrap().parse().unwrap())
 }
 
-/// Instructions of the programs on a log with 16 questions, and what the proved one takes a log byte and a round.
+/// Instructions of the programs on a log with 16 questions, what the proved one takes a log byte and a round, and Read a log byte.
 pub struct Program {
     stations: usize,
     events: usize,
@@ -43,6 +43,7 @@ pub struct Program {
     pub peers: Vec<u64>,
     per_byte: f64,
     per_round: f64,
+    read: f64,
 }
 
 fn program(stations: usize, events: usize) -> Program {
@@ -58,6 +59,7 @@ fn program(stations: usize, events: usize) -> Program {
     };
     let peers = PEERS.iter().map(|p| peer(p.name)).collect();
     let (reading, beginning) = (instructions(&[PROGRAM], &unasked).1, instructions(&[PROGRAM], &empty).1);
+    let reads = |times: &str| instructions(&[bench.to_str().unwrap(), "read", times], &asked).1;
     let rounds = printed.split_inclusive('\n').map(|l| rounds(l.as_bytes())).sum();
     Program {
         stations,
@@ -68,6 +70,7 @@ fn program(stations: usize, events: usize) -> Program {
         peers,
         per_byte: (reading - beginning) as f64 / bare.len() as f64,
         per_round: (proved - reading) as f64 / rounds as f64,
+        read: (reads("11") - reads("1")) as f64 / (10 * data.len()) as f64,
     }
 }
 
@@ -78,11 +81,11 @@ pub fn programs() -> Vec<Program> {
 
 pub fn section(programs: &[Program]) -> String {
     let mut page = String::from(include_str!("counted.md"));
-    page += &head(format!("| stations | events | log bytes | rounds | proved | {} | proved, a log byte | proved, a round |", names()));
+    page += &head(format!("| stations | events | log bytes | rounds | proved | {} | proved, a log byte | proved, a round | Read, a log byte |", names()));
     for p in programs {
-        let Program { stations, events, bytes, rounds, proved, peers, per_byte, per_round } = p;
+        let Program { stations, events, bytes, rounds, proved, peers, per_byte, per_round, read } = p;
         let peers = cells(|i| peers[i].to_string());
-        writeln!(page, "| {stations} | {events} | {bytes} | {rounds} | {proved} | {peers} | {per_byte:.0} | {per_round:.0} |").unwrap();
+        writeln!(page, "| {stations} | {events} | {bytes} | {rounds} | {proved} | {peers} | {per_byte:.0} | {per_round:.0} | {read:.2} |").unwrap();
     }
     page
 }

@@ -4,6 +4,7 @@
 //!                            and one line where something that it needs is not there
 //!        bench run           the times of one run, a line for each log and code
 //!        bench print CODE    answers a log from standard input by another code: `independent`, `plain` or `fast`
+//!        bench read TIMES    reads a log from standard input that many times by Read of the proved code
 //!        bench check [LOGS] [SEED]    compares what the other codes print, on the corpus and on logs of the comparison
 mod arena;
 mod check;
@@ -16,7 +17,7 @@ mod spin;
 mod timed;
 
 use codes::{cells, head, ratio_names, Peer, PEERS};
-use compare::log::QUESTIONS;
+use compare::log::{LIST, QUESTIONS};
 use compare::operations::LINE;
 use compare::proved;
 use counted::{Memory, Program, PROGRAM};
@@ -30,6 +31,15 @@ fn print(peer: &Peer) {
     stdin().read_to_end(&mut data).unwrap();
     let n = arena::lent(|| (peer.printed)(&data, &mut out));
     stdout().write_all(&out[..n]).unwrap();
+}
+
+fn read(times: &str) {
+    let mut data = Vec::new();
+    stdin().read_to_end(&mut data).unwrap();
+    let mut list = [0; LIST];
+    for _ in 0..times.parse().unwrap_or_else(|_| refuse("usage: bench read TIMES")) {
+        proved::read(&data, &mut list).unwrap_or_else(|_| refuse("the log is refused"));
+    }
 }
 
 /// The page's head, with a line for each peer and how often is measured.
@@ -115,6 +125,7 @@ fn main() {
     let folder = match words[..] {
         ["run"] => return std::print!("{}", timed::run()),
         ["print", code] => return print(PEERS.iter().find(|p| p.name == code).unwrap_or_else(|| refuse("no such code"))),
+        ["read", times] => return read(times),
         ["check", ref numbers @ ..] if numbers.len() < 3 => {
             let number = |i: usize, usual| numbers.get(i).map_or(usual, |n| n.parse().unwrap_or_else(|_| refuse("usage: bench check [LOGS] [SEED]")));
             return println!("{} logs, all equal", checked(number(0, check::LOGS), number(1, check::SEED)));
