@@ -137,14 +137,32 @@ def admit(log, f):
     log.frames.append(bytes(f))
 
 
-def frame_of(line):
-    """The frame of a line without its end; None is a line that has none."""
+def bytes_of(line):
+    """The bytes of a line without its end; None is a line that has none."""
     if line is None or len(line) % 2 or not 4 <= len(line) <= 200 or any(c not in DIGITS for c in line):
         raise Refused(2)
-    frame = bytes.fromhex(line.decode())
+    return bytes.fromhex(line.decode())
+
+
+def frame_of(line):
+    """The frame of such a line."""
+    frame = bytes_of(line)
     if sum(frame) % 256:
         raise Refused(3)
     return frame[:-1]
+
+
+def own(data, at):
+    """How many bytes the line at a place has, its 0A included where there is one."""
+    end = data.find(b"\n", at)
+    return (len(data) if end < 0 else end + 1) - at
+
+
+def walk(data, at):
+    """The bytes of the line at a place, their sum, and the looks at the log that one walk over it takes: document 02, ticket 2."""
+    line = data[at:at + own(data, at)]
+    found = bytes_of(line[:-1] if line.endswith(b"\n") else None)
+    return found, sum(found) % 256, len(line)
 
 
 def read_frames(items, frame):

@@ -1,5 +1,6 @@
 // Runs the operations and the program on the cases of standard input, and prints what each hands back and leaves in what was lent to it.
-// A case's letter says what is run: R for Read, W for Write, A for Answer, H for Holds, P for the program, and any other the bases.
+// A case's letter says what is run: R for Read, W for Write, A for Answer, H for Holds, P for the program, L for the walk over a line,
+// and any other the bases.
 use model::HoldsAnswer;
 use model::LineAnswer;
 use model::Log;
@@ -53,6 +54,25 @@ fn holds_case(
     }
 }
 
+// Walks over a line of the log: `line` says in two bytes each where it starts and how many bytes it has.
+fn walk_case(log: &[u8], line: &[u8], out: &mut [u8]) {
+    if line.len() != 4 {
+        return;
+    }
+    if out.len() != 100 {
+        return;
+    }
+    let at = cells::word(line, 0) as usize;
+    let own = cells::word(line, 2) as usize;
+    if log.len() <= at {
+        return;
+    }
+    match walk::walk_line(log, at, out) {
+        walk::Walk::Frame(k, sum, looks) => trial::print_walk(k, sum, looks, out),
+        walk::Walk::Malformed(looks) => trial::print_malformed(looks <= own),
+    }
+}
+
 // Runs the program on the log.
 fn print_case(log: &[u8]) {
     io::write_all(1, b"\n");
@@ -75,6 +95,8 @@ fn run_case(c: Case, cut: &[u8], data: &[u8], ws: &mut [u8], bs: &mut [u8], out:
         holds_case(data, c.question, cut, ws, bs, out);
     } else if letter == b'P' {
         print_case(data);
+    } else if letter == b'L' {
+        walk_case(data, cut, out);
     } else {
         bases::print_case(data);
     }

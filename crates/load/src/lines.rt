@@ -73,7 +73,7 @@ fn load_line(m: model::Limits, log: &[u8], p: Position, list: &mut [u8], store: 
     let mut bytes = [0u8; 100];
     let at = p.at;
     match walk::walk_line(log, at, &mut bytes) {
-        walk::Walk::Frame(k, sum, next) => {
+        walk::Walk::Frame(k, sum, looks) => {
             if sum != 0 {
                 return Turn {
                     step: Step::Faulty(model::Fault::CheckByte),
@@ -81,9 +81,9 @@ fn load_line(m: model::Limits, log: &[u8], p: Position, list: &mut [u8], store: 
                 };
             }
             let n = k - 1;
-            load_frame(m, p, &bytes[..n], next, list, store)
+            load_frame(m, p, &bytes[..n], at + looks, list, store)
         }
-        walk::Walk::Malformed => Turn {
+        walk::Walk::Malformed(_) => Turn {
             step: Step::Faulty(model::Fault::LineForm),
             position: p,
         },

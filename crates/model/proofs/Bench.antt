@@ -5,10 +5,12 @@ use Prim.Native.Char.{code}
 use Prim.Native.String as text
 use Prim.Native.String.{String}
 use mathlib.Core.List.{List, [], _∷_, _++_}
-use lib.ListN.{replicate}
+use mathlib.Core.Bool.{true, false}
+use lib.ListN.{drop, replicate}
 use Rattle.model.specs.Limits.{limits, workspaceSize, barspaceSize}
 use Rattle.model.specs.Lists.{sum, between, every}
 use Rattle.model.specs.Bytes.{push, linesOf, digit, byte, bytes, carried, items, hexDigit, hex, checkByte, line}
+use Rattle.model.specs.Looks.{own, wellFormed}
 use Rattle.model.specs.Frames.{word, words, listOf}
 use Rattle.model.specs.Atom.{atomBytes, operands, atomOf, soundAtom, within, next, upTo, raiseTo, passes, raiseAtom}
 use Rattle.model.specs.Atom.Atom.{inRange}
@@ -70,7 +72,7 @@ three-ways = or (range 0 5 5) two-ways
 
 -- All that is computed with: to unfold this is to unfold what its line names.
 definitions : Unit {0}
-unfolding ascii range bench Q asking holdsAt two-ways three-ways sum between every push linesOf digit byte bytes carried items hexDigit hex checkByte line word words listOf atomBytes operands atomOf soundAtom within next upTo raiseTo passes raiseAtom prefix ahead one two sign token spelt formulasIn single formulaOf sound weigh inside insideAny join clock value known isConsistent counted clockOk asTrue asFalse width bars slim narrow fits row joined raiseBy raise reaches inSet belongs belongsAny joinRow joinRows greatest keep buildOn build thenRight round onward after run start intersect each pairs below lowered barred basis roundsOfPair roundsOfPairs rounds notInside add tops precedes insert sort trueAt answer inRow fourBytes answerLine refusalLine begun check headerForm opened admitHeader eventForm extended unasked admitEvent asked admitQuestion admit finish proceed readItems readLog readEffect readOp posing openingOf opening cramped holdsReplyTo holdsOp answerLines printedOf printed
+unfolding ascii range bench Q asking holdsAt two-ways three-ways sum between every push linesOf digit byte bytes carried items own wellFormed hexDigit hex checkByte line word words listOf atomBytes operands atomOf soundAtom within next upTo raiseTo passes raiseAtom prefix ahead one two sign token spelt formulasIn single formulaOf sound weigh inside insideAny join clock value known isConsistent counted clockOk asTrue asFalse width bars slim narrow fits row joined raiseBy raise reaches inSet belongs belongsAny joinRow joinRows greatest keep buildOn build thenRight round onward after run start intersect each pairs below lowered barred basis roundsOfPair roundsOfPairs rounds notInside add tops precedes insert sort trueAt answer inRow fourBytes answerLine refusalLine begun check headerForm opened admitHeader eventForm extended unasked admitEvent asked admitQuestion admit finish proceed readItems readLog readEffect readOp posing openingOf opening cramped holdsReplyTo holdsOp answerLines printedOf printed
 definitions = tt
 
 -- The twelve cases marked *.
@@ -112,6 +114,20 @@ pub through-zero :
     × (printed (asking (not (range 0 5 4))) ≡ ascii "40000000000000C0\n")
 unfolding definitions
 through-zero = (refl, refl, refl, refl, refl)
+
+-- A line's own bytes: the first line's, those from its third byte on, an empty line's, those of one without 0A; and which of these lines, with one whose check byte is wrong, are well formed.
+pub own-bytes :
+    (own (linesOf bench) ≡ 15)
+    × (own (linesOf (drop 2 bench)) ≡ 13)
+    × (own (linesOf (drop 14 bench)) ≡ 1)
+    × (own (linesOf (ascii "100200000000EE")) ≡ 14)
+    × (wellFormed (items (linesOf bench)) ≡ true)
+    × (wellFormed (items (linesOf (drop 2 bench))) ≡ true)
+    × (wellFormed (items (linesOf (drop 14 bench))) ≡ false)
+    × (wellFormed (items (linesOf (ascii "100200000000EE"))) ≡ false)
+    × (wellFormed (items (linesOf (ascii "100200000000EF\n"))) ≡ true)
+unfolding definitions
+own-bytes = (refl, refl, refl, refl, refl, refl, refl, refl, refl)
 
 -- What is promised of accepted logs and their questions is promised of this one.
 pub bench-asked : Asked limits (asking Q) 0 benched Q

@@ -1,6 +1,7 @@
 pub mod Limits
 pub mod Lists
 pub mod Bytes
+pub mod Looks
 pub mod Frames
 pub mod Cut
 pub mod Computation

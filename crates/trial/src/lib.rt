@@ -149,6 +149,23 @@ pub fn print_unwritten(r: Refusal, out: &[u8]) {
     print_output(out, 0);
 }
 
+// What a walk over a line finds: the number of its bytes, their sum, the looks that it took, and the bytes.
+pub fn print_walk(k: usize, sum: u8, looks: usize, out: &[u8]) {
+    print_number(k);
+    print_number(wide(sum));
+    print_number(looks);
+    print_output(out, k);
+}
+
+// A line whose form is wrong, and whether more was looked at than it has.
+pub fn print_malformed(within: bool) {
+    if within {
+        io::write_all(1, b" malformed\n");
+    } else {
+        io::write_all(1, b" malformed, more was looked at\n");
+    }
+}
+
 // The line that Answer wrote, as it is.
 pub fn print_answer(len: usize, out: &[u8]) {
     print_kept(as_lent(out, len));

@@ -2,7 +2,7 @@
 use mathlib.Core.Path.{_≡_, sym, _∙_}
 use mathlib.Core.List.{List, [], _∷_}
 use mathlib.Core.Option.{some}
-use Prim.Native.Nat.{ℕ, _-_, _%_, _≤_}
+use Prim.Native.Nat.{ℕ, _+_, _-_, _%_, _≤_}
 use native.Mathlib.Omega.{arith}
 use lib.ListN.{length, take, drop, drop-of-length-le}
 use lib.Seq.{length-take-le, take-take}
@@ -15,10 +15,10 @@ use Rattle.walk.specs.declared.Walk.{Walk}
 use Rattle.walk.specs.declared.Walk.the-variants.{Frame, Malformed}
 
 -- The two cases of an answer.
-pub walked-frame : {log out : List ℕ} {at k s next : ℕ} → (r : Walk) → Walked log at r out → r ≡ Frame k s next → Framed log at k s next out
+pub walked-frame : {log out : List ℕ} {at k s looks : ℕ} → (r : Walk) → Walked log at r out → r ≡ Frame k s looks → Framed log at k s (at + looks) out
 walked-frame r w e = rw e at w
 
-pub walked-malformed : {log : List ℕ} {at : ℕ} → (out : List ℕ) (r : Walk) → Walked log at r out → r ≡ Malformed → Spoilt log at
+pub walked-malformed : {log : List ℕ} {at looks : ℕ} → (out : List ℕ) (r : Walk) → Walked log at r out → r ≡ Malformed looks → Spoilt log at
 walked-malformed out r w e = rw e at w
 
 module _ {log out : List ℕ} {at k s next : ℕ} (w : Framed log at k s next out) where

@@ -95,7 +95,7 @@ joined-front a v s (some h) none ea eb e = let z : _≡_ {A = ℕ} 0 1 = cc in a
 joined-front a v [] (some h) (some l) ea eb e = let z : _≡_ {A = ℕ} 0 1 = cc in absurd (omega arith)
 joined-front a v (b ∷ s) (some h) (some l) ea eb e = let x : 16 * h + l ≡ v = cc in rw (← x) (pair-front a b h l s ea eb)
 
-not-end : (t : Bool) (p : Pair) (v : ℕ) → cond t End p ≡ Byte v → p ≡ Byte v
+pub not-end : (t : Bool) (p : Pair) (v : ℕ) → cond t End p ≡ Byte v → p ≡ Byte v
 not-end true p v e = let z : _≡_ {A = ℕ} 0 1 = cc in absurd (omega arith)
 not-end false p v e = e
 
@@ -110,7 +110,7 @@ unfolding linesOf
 more-end s a p true t e n = rw t
 more-end s a p false t e n = absurd (n e)
 
-joined-no-end : (h l : Option ℕ) → joined h l ≡ End → ⊥
+pub joined-no-end : (h l : Option ℕ) → joined h l ≡ End → ⊥
 joined-no-end none l e = let z : _≡_ {A = ℕ} 0 1 = cc in omega arith
 joined-no-end (some h) none e = let z : _≡_ {A = ℕ} 0 1 = cc in omega arith
 joined-no-end (some h) (some l) e = let z : _≡_ {A = ℕ} 0 1 = cc in omega arith

@@ -2,5 +2,6 @@ pub mod Digits
 pub mod Pairs
 pub mod Fronts
 pub mod Refusals
-pub mod Walks
 pub mod Carried
+pub mod Looks
+pub mod Walks

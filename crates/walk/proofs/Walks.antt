@@ -10,12 +10,17 @@ use lib.Seq.{take-suc-set, drop-drop, drop-set-lt, length-take-le}
 use Rattle.model.specs.Lists.{sum, total}
 use Rattle.model.specs.Bytes.{more, linesOf, bytes}
 use Rattle.lattice.proofs.Sums.{sum-snoc}
-use Rattle.walk.specs.Pairs.{pairOf}
-use Rattle.walk.specs.Walked.{Framed, Spoilt, lead}
+use Rattle.model.specs.Looks.{Looks}
+use Rattle.walk.specs.Pairs.{pairOf, toTell}
+use Rattle.walk.specs.Walked.{Framed, Spoilt, Walked, looked, onto, lead, behind, looksOf}
+use Rattle.walk.specs.declared.Walk.{Walk}
+use Rattle.walk.specs.declared.Walk.the-variants.{Frame, Malformed}
 use Rattle.cells.specs.Put.{putOf}
+use Rattle.walk.specs.declared.Pair.{Pair}
 use Rattle.walk.specs.declared.Pair.the-variants.{Byte, End, Broken}
 use Rattle.walk.proofs.Fronts.{Front, front-none, front-join, front-pair, lines-end, pushes, pushes-more, ahead}
 use Rattle.cells.proofs.Puts.{put-front}
+use Rattle.walk.proofs.Looks.{tell-byte, tell-end, looks-byte, looks-last, looks-told}
 use Rattle.walk.proofs.Refusals.{Refused, refused-faulty, refused-many, refused-few, refused-broken}
 
 -- ---- the pairs at the front
@@ -23,20 +28,17 @@ lead-byte : (m : ℕ) (s : List ℕ) (b : ℕ) → pairOf s ≡ Byte b → lead 
 unfolding lead
 lead-byte m s b e = rw e
 
-lead-end : (m : ℕ) (s : List ℕ) → pairOf s ≡ End → lead m s ≡ []
+lead-last : (m : ℕ) (s : List ℕ) (p : Pair) → pairOf s ≡ p → ((l : List ℕ) → onto p l ≡ []) → lead m s ≡ []
 unfolding lead
-lead-end zero s e = refl
-lead-end (suc m) s e = rw e
+lead-last zero s p e h = refl
+lead-last (suc m) s p e h = rw e (h (lead m (drop 2 s)))
 
-lead-broken : (m : ℕ) (s : List ℕ) → pairOf s ≡ Broken → lead m s ≡ []
-unfolding lead
-lead-broken zero s e = refl
-lead-broken (suc m) s e = rw e
-
--- ---- before each pair: the first k of out are the bytes from `at` to i, and sum is theirs
-pub record Walking (log : List ℕ) (at : ℕ) (out₀ out : List ℕ) (k s i : ℕ) : Type 0 where
+-- ---- before each pair: the first k of out are the bytes from `at` to i, s is their sum, and n bytes were looked at
+pub record Walking (log : List ℕ) (at : ℕ) (out₀ out : List ℕ) (k s n i : ℕ) : Type 0 where
   pub starts : at < length log
   pub place : i ≡ at + 2 * k
+  pub count : n ≡ 2 * k
+  pub tells : looksOf 100 (drop at log) ≡ n + looksOf (100 - k) (drop i log)
   pub inside : i ≤ length log
   pub few : k ≤ 100
   pub room : length out ≡ 100
@@ -45,11 +47,13 @@ pub record Walking (log : List ℕ) (at : ℕ) (out₀ out : List ℕ) (k s i : 
   pub leads : lead 100 (drop at log) ≡ take k out ++ lead (100 - k) (drop i log)
   pub behind : drop k out ≡ drop k out₀
 
-pub walk-start : (log : List ℕ) (at : ℕ) (out : List ℕ) → at < length log → length out ≡ 100 → Walking log at out out 0 0 at
+pub walk-start : (log : List ℕ) (at : ℕ) (out : List ℕ) → at < length log → length out ≡ 100 → Walking log at out out 0 0 0 at
 unfolding sum
 walk-start log at out h r = record {
   starts = h;
   place = omega arith;
+  count = refl;
+  tells = omega arith;
   inside = omega arith;
   few = omega arith;
   room = r;
@@ -60,22 +64,31 @@ walk-start log at out h r = record {
 }
 
 -- one pair more in front
-pair-more : {log out₀ out : List ℕ} {at k s i v : ℕ} → Walking log at out₀ out k s i → pairOf (drop i log) ≡ Byte v
+pair-more : {log out₀ out : List ℕ} {at k s n i v : ℕ} → Walking log at out₀ out k s n i → pairOf (drop i log) ≡ Byte v
     → Front (take k out ++ (v ∷ [])) (drop at log) (drop (i + 2) log)
 pair-more {log} {i = i} {v = v} w e = front-join (w .front) (rw (drop-drop 2 i log) at (front-pair (drop i log) v e))
 
-next-behind : {log out₀ out : List ℕ} {at k s i : ℕ} → Walking log at out₀ out k s i → drop (k + 1) out ≡ drop (k + 1) out₀
+next-behind : {log out₀ out : List ℕ} {at k s n i : ℕ} → Walking log at out₀ out k s n i → drop (k + 1) out ≡ drop (k + 1) out₀
 next-behind {out₀ = out₀} {out = out} {k = k} w = sym (drop-drop 1 k out) ∙ ap (drop 1) (w .behind) ∙ drop-drop 1 k out₀
 
-pub walk-byte : {log out₀ out : List ℕ} {at k s i v : ℕ} → Walking log at out₀ out k s i → pairOf (drop i log) ≡ Byte v → (k ≡ 100 → ⊥)
-    → Walking log at out₀ (set out k v) (k + 1) ((s + v) % 256) (i + 2)
-walk-byte {log} {out₀} {out} {at} {k} {s} {i} {v} w e n =
-    let few : k < 100 = omega (arith, w .few, n) in
+-- one look for each byte of it
+looks-more : {log out₀ out : List ℕ} {at k s n i v : ℕ} → Walking log at out₀ out k s n i → pairOf (drop i log) ≡ Byte v → k < 100
+    → looksOf 100 (drop at log) ≡ n + toTell (drop i log) + looksOf (100 - (k + 1)) (drop (i + 2) log)
+looks-more {log} {k = k} {n = n} {i = i} {v = v} w e few =
+    let more : looksOf (100 - k) (drop i log) ≡ looksOf (suc (100 - (k + 1))) (drop i log) = ap (λ (m : ℕ). looksOf m (drop i log)) (omega arith) in
+    w .tells ∙ rw (more, looks-byte (100 - (k + 1)) (drop i log) v e, drop-drop 2 i log) (omega arith)
+
+pub walk-byte : {log out₀ out : List ℕ} {at k s n i v m : ℕ} → Walking log at out₀ out k s n i → m ≡ n + toTell (drop i log) → pairOf (drop i log) ≡ Byte v → (k ≡ 100 → ⊥)
+    → Walking log at out₀ (set out k v) (k + 1) ((s + v) % 256) m (i + 2)
+walk-byte {log} {out₀} {out} {at} {k} {s} {n} {i} {v} w c e h =
+    let few : k < 100 = omega (arith, w .few, h) in
     let more : lead (100 - k) (drop i log) ≡ lead (suc (100 - (k + 1))) (drop i log) = ap (λ (m : ℕ). lead m (drop i log)) (omega arith) in
     let t : take (k + 1) (set out k v) ≡ take k out ++ (v ∷ []) = rw add-one (take-suc-set out k v (omega (arith, w .room))) in
     record {
       starts = w .starts;
       place = omega (arith, w .place);
+      count = omega (arith, w .count, c, tell-byte (drop i log) v e);
+      tells = rw c (looks-more w e few);
       inside = omega (arith, length-drop i log, length-drop 2 (drop i log), front-pair (drop i log) v e .long, front-pair (drop i log) v e .two);
       few = omega arith;
       room = length-set out k v ∙ w .room;
@@ -89,10 +102,10 @@ walk-byte {log} {out₀} {out} {at} {k} {s} {i} {v} w e n =
 end-at : (log : List ℕ) (i : ℕ) → pairOf (drop i log) ≡ End → linesOf (drop i log) ≡ more [] (linesOf (drop (i + 1) log))
 end-at log i e = lines-end (drop i log) e ∙ ap (λ (s : List ℕ). more [] (linesOf s)) (drop-drop 1 i log)
 
-pub walk-end : {log out₀ out : List ℕ} {at k s i : ℕ} → Walking log at out₀ out k s i → i < length log → pairOf (drop i log) ≡ End → 2 ≤ k
+framed : {log out₀ out : List ℕ} {at k s n i : ℕ} → Walking log at out₀ out k s n i → i < length log → pairOf (drop i log) ≡ End → 2 ≤ k
     → Framed log at k s (i + 1) out
 unfolding bytes ahead
-walk-end {log} {out₀} {out} {at} {k} {s} {i} w h e two =
+framed {log} {out₀} {out} {at} {k} {s} {n} {i} w h e two =
     let r = w .front in
     record {
       text = r .passed ++ [];
@@ -107,50 +120,62 @@ walk-end {log} {out₀} {out} {at} {k} {s} {i} w h e two =
     }
 
 -- ---- what is refused
-length-bytes : {log out₀ out : List ℕ} {at k s i : ℕ} → Walking log at out₀ out k s i → length (take k out) ≡ k
+length-bytes : {log out₀ out : List ℕ} {at k s n i : ℕ} → Walking log at out₀ out k s n i → length (take k out) ≡ k
 length-bytes {out = out} {k = k} w = length-take-le k out (omega (arith, w .few, w .room))
 
 spoilt : {log f t : List ℕ} {at : ℕ} → Front f (drop at log) t → Refused f (linesOf t) → Spoilt log at
 spoilt r h = let x = refused-faulty r h in record { others = x .0; is = x .1 }
-
-pub walk-many : {log out₀ out : List ℕ} {at k s i v : ℕ} → Walking log at out₀ out k s i → pairOf (drop i log) ≡ Byte v → k ≡ 100 → Spoilt log at
-walk-many {log} {out = out} {k = k} {i = i} {v = v} w e h =
-    spoilt (pair-more w e) (refused-many (take k out ++ (v ∷ [])) (linesOf (drop (i + 2) log)) (simp length-append (omega (arith, length-bytes w))))
-
-pub walk-few : {log out₀ out : List ℕ} {at k s i : ℕ} → Walking log at out₀ out k s i → pairOf (drop i log) ≡ End → k < 2 → Spoilt log at
-walk-few {log} {out = out} {k = k} {i = i} w e h =
-    spoilt (w .front) (rw (end-at log i e) (refused-few (take k out) (linesOf (drop (i + 1) log)) (omega (arith, length-bytes w))))
-
-pub walk-broken : {log out₀ out : List ℕ} {at k s i : ℕ} → Walking log at out₀ out k s i → i < length log → pairOf (drop i log) ≡ Broken → Spoilt log at
-walk-broken {log} {out = out} {k = k} {i = i} w h e =
-    spoilt (w .front) (refused-broken (take k out) (drop i log) (simp length-drop (omega arith)) e)
 
 -- the log ends before 0A
 over : (f t : List ℕ) → 1 ≤ length f → t ≡ [] → Refused f (linesOf t)
 unfolding linesOf
 over f t h e = rw e (omega arith)
 
-pub walk-over : {log out₀ out : List ℕ} {at k s i : ℕ} → Walking log at out₀ out k s i → length log ≤ i → Spoilt log at
-walk-over {log} {out = out} {k = k} {i = i} w h =
-    spoilt (w .front) (over (take k out) (drop i log) (omega (arith, length-bytes w, w .starts, w .place)) (drop-of-length-le log h))
+-- ---- where the walk ends: the looks, what they told, and what it leaves
+abbrev Told : List ℕ → ℕ → List ℕ → Walk → List ℕ → Type 0
+Told log at out₀ r out = (looked r ≡ looksOf 100 (drop at log)) × (Looks (linesOf (drop at log)) (looked r) × (Walked log at r out × (out ≡ putOf out₀ 0 (lead 100 (drop at log)))))
 
--- ---- what the walk leaves
-module _ {log out₀ out : List ℕ} {at k s i : ℕ} (w : Walking log at out₀ out k s i) where
+module _ {log out₀ out : List ℕ} {at k s n i m : ℕ} (w : Walking log at out₀ out k s n i) (c : m ≡ n + toTell (drop i log)) where
   leaves : lead (100 - k) (drop i log) ≡ [] → out ≡ putOf out₀ 0 (lead 100 (drop at log))
   leaves e =
       let l : lead 100 (drop at log) ≡ take k out = w .leads ∙ ap (λ (x : List ℕ). take k out ++ x) e ∙ append-nil (take k out) in
       sym (take-append-drop k out) ∙ ap (λ (x : List ℕ). take k out ++ x) (w .behind) ∙ ap (λ (n : ℕ). take k out ++ drop n out₀) (sym (length-bytes w)) ∙ sym (put-front out₀ (take k out)) ∙ ap (putOf out₀ 0) (sym l)
 
-  pub leaves-many : k ≡ 100 → out ≡ putOf out₀ 0 (lead 100 (drop at log))
-  unfolding lead
-  leaves-many h = leaves (rw h)
+  told : (r : Walk) → looked r ≡ m → Walked log at r out → lead (100 - k) (drop i log) ≡ [] → looksOf (100 - k) (drop i log) ≡ toTell (drop i log) → Told log at out₀ r out
+  told r e x l t =
+      let n : looked r ≡ looksOf 100 (drop at log) = e ∙ c ∙ sym (w .tells ∙ ap (λ (k : ℕ). n + k) t) in
+      (n, (looks-told log out at r x n, (x, leaves l)))
 
-  pub leaves-end : pairOf (drop i log) ≡ End → out ≡ putOf out₀ 0 (lead 100 (drop at log))
-  leaves-end e = leaves (lead-end (100 - k) (drop i log) e)
+  -- what stands at i is no pair of digits
+  stopped : (p : Pair) → pairOf (drop i log) ≡ p → ((l : List ℕ) → onto p l ≡ []) → ((n : ℕ) → behind p n ≡ 0) → (r : Walk) → looked r ≡ m → Walked log at r out → Told log at out₀ r out
+  stopped p e l n r q x = told r q x (lead-last (100 - k) (drop i log) p e l) (looks-last (100 - k) (drop i log) p e n)
 
-  pub leaves-broken : pairOf (drop i log) ≡ Broken → out ≡ putOf out₀ 0 (lead 100 (drop at log))
-  leaves-broken e = leaves (lead-broken (100 - k) (drop i log) e)
+  many : (v : ℕ) → pairOf (drop i log) ≡ Byte v → k ≡ 100 → Spoilt log at
+  many v e h = spoilt (pair-more w e) (refused-many (take k out ++ (v ∷ [])) (linesOf (drop (i + 2) log)) (simp length-append (omega (arith, length-bytes w))))
 
-  pub leaves-over : length log ≤ i → out ≡ putOf out₀ 0 (lead 100 (drop at log))
-  unfolding pairOf
-  leaves-over h = leaves-broken (rw (drop-of-length-le log h))
+  pub told-many : {v : ℕ} → pairOf (drop i log) ≡ Byte v → k ≡ 100 → Told log at out₀ (Malformed m) out
+  unfolding lead looksOf
+  told-many {v} e h = told (Malformed m) refl (many v e h) (rw h) (rw h)
+
+  few : pairOf (drop i log) ≡ End → k < 2 → Spoilt log at
+  few e h = spoilt (w .front) (rw (end-at log i e) (refused-few (take k out) (linesOf (drop (i + 1) log)) (omega (arith, length-bytes w))))
+
+  pub told-few : pairOf (drop i log) ≡ End → k < 2 → Told log at out₀ (Malformed m) out
+  told-few e h = stopped End e (λ l. refl) (λ n. refl) (Malformed m) refl (few e h)
+
+  pub told-frame : i < length log → pairOf (drop i log) ≡ End → 2 ≤ k → Told log at out₀ (Frame k s m) out
+  told-frame h e two =
+      let next : i + 1 ≡ at + m = omega (arith, w .place, w .count, c, tell-end (drop i log) e) in
+      stopped End e (λ l. refl) (λ n. refl) (Frame k s m) refl (rw next at (framed w h e two))
+
+  broken : i < length log → pairOf (drop i log) ≡ Broken → Spoilt log at
+  broken h e = spoilt (w .front) (refused-broken (take k out) (drop i log) (simp length-drop (omega arith)) e)
+
+  pub told-broken : i < length log → pairOf (drop i log) ≡ Broken → Told log at out₀ (Malformed m) out
+  told-broken h e = stopped Broken e (λ l. refl) (λ n. refl) (Malformed m) refl (broken h e)
+
+pub told-over : {log out₀ out : List ℕ} {at k s n i : ℕ} → Walking log at out₀ out k s n i → length log ≤ i → Told log at out₀ (Malformed n) out
+unfolding pairOf toTell
+told-over {log} {out = out} {k = k} {n = n} {i = i} w h =
+    let z : drop i log ≡ [] = drop-of-length-le log h in
+    stopped w (rw z (omega arith)) Broken (rw z) (λ l. refl) (λ n. refl) (Malformed n) refl (spoilt (w .front) (over (take k out) (drop i log) (omega (arith, length-bytes w, w .starts, w .place)) z))

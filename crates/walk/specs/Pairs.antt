@@ -1,5 +1,5 @@
--- A digit, and a pair of digits at an even place of a line, as the code names them.
-use Prim.Native.Nat.{ℕ, _+_, _*_}
+-- A digit, and a pair of digits at an even place of a line, as the code names them; how many bytes tell what stands there.
+use Prim.Native.Nat.{ℕ, suc, _+_, _*_}
 use mathlib.Core.Bool.{cond}
 use mathlib.Core.List.{List, [], _∷_}
 use mathlib.Core.Option.{Option, none, some}
@@ -30,3 +30,14 @@ joined (some h) (some l) = Byte (16 * h + l)
 unfoldable pub pairOf : List ℕ → Pair
 pairOf [] = Broken
 pairOf (a ∷ s) = cond (eqb a 0x0A) End (joined (digit a) (firstDigit s))
+
+-- A digit asks for the byte behind it, where there is one.
+abbrev pub second : Option ℕ → List ℕ → ℕ
+second none s = 0
+second (some h) [] = 0
+second (some h) (b ∷ s) = 1
+
+-- How many bytes tell what stands at the front.
+unfoldable pub toTell : List ℕ → ℕ
+toTell [] = 0
+toTell (a ∷ s) = suc (second (digit a) s)

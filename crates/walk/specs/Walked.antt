@@ -10,7 +10,7 @@ use Rattle.walk.specs.declared.Pair.{Pair}
 use Rattle.walk.specs.declared.Pair.the-variants.{Byte, End, Broken}
 use Rattle.walk.specs.declared.Walk.{Walk}
 use Rattle.walk.specs.declared.Walk.the-variants.{Frame, Malformed}
-use Rattle.walk.specs.Pairs.{pairOf}
+use Rattle.walk.specs.Pairs.{pairOf, toTell}
 
 -- A line of 2 to 100 bytes, now the first k of out, with their sum; the next line starts at `next`.
 pub record Framed (log : List ℕ) (at k sum next : ℕ) (out : List ℕ) : Type 0 where
@@ -29,9 +29,15 @@ pub record Spoilt (log : List ℕ) (at : ℕ) : Type 0 where
   pub others : List Item
   pub is : items (linesOf (drop at log)) ≡ bad 2 ∷ others
 
+-- The next line starts behind what was looked at.
 abbrev pub Walked : List ℕ → ℕ → Walk → List ℕ → Type 0
-Walked log at (Frame k sum next) out = Framed log at k sum next out
-Walked log at Malformed out = Spoilt log at
+Walked log at (Frame k sum looks) out = Framed log at k sum (at + looks) out
+Walked log at (Malformed looks) out = Spoilt log at
+
+-- How many bytes of the log were looked at.
+abbrev pub looked : Walk → ℕ
+looked (Frame k sum looks) = looks
+looked (Malformed looks) = looks
 
 -- The byte of a pair in front of others, if it is one.
 abbrev pub onto : Pair → List ℕ → List ℕ
@@ -43,3 +49,14 @@ onto Broken l = []
 unfoldable pub lead : ℕ → List ℕ → List ℕ
 lead zero s = []
 lead (suc m) s = onto (pairOf s) (lead m (drop 2 s))
+
+-- What is looked at behind a pair of digits, and nothing behind anything else.
+abbrev pub behind : Pair → ℕ → ℕ
+behind (Byte b) n = n
+behind End n = 0
+behind Broken n = 0
+
+-- The looks of a walk over at most m pairs of digits and what stands behind them.
+unfoldable pub looksOf : ℕ → List ℕ → ℕ
+looksOf zero s = toTell s
+looksOf (suc m) s = toTell s + behind (pairOf s) (looksOf m (drop 2 s))

@@ -1,6 +1,6 @@
 -- What the walk over the line tells decides; a frame goes to `load_frame`. Assumes nothing.
 use mathlib.Core.Path.{_≡_, refl, sym}
-use Prim.Native.Nat.{_-_}
+use Prim.Native.Nat.{_+_, _-_}
 use native.Mathlib.Omega.{arith}
 use lib.ListN.{length, take}
 use lib.Seq.{length-take-le}
@@ -22,8 +22,8 @@ enum-known-k : tie.Need-enum-known-k
 enum-known-k c = search needs
 
 -- what the walk over the line tells
-g : (c : tie.After-k) → Framed (c .before .before .before .before .before .before .before .before .args .log .now) (c .before .before .before .before .before .before .before .before .args .p .at) (c .k .given .0 .0) (c .k .given .0 .1 .0) (c .k .given .0 .1 .1 .0) (c .before .before .before .walk-line .last .1 .1 .0)
-g c = walked-frame _ (c .before .before .before .walk-line .ensures .0) (c .k .given .1)
+g : (c : tie.After-k) → Framed (c .before .before .before .before .before .before .before .before .args .log .now) (c .before .before .before .before .before .before .before .before .args .p .at) (c .k .given .0 .0) (c .k .given .0 .1 .0) (c .before .before .before .before .before .before .before .before .args .p .at + c .k .given .0 .1 .1 .0) (c .before .before .before .walk-line .last .1 .1 .0)
+g c = walked-frame _ (c .before .before .before .walk-line .ensures .1 .1 .0) (c .k .given .1)
 
 long : (c : tie.After-k) → length (take (c .k .given .0 .0 - 1) (c .before .before .before .walk-line .last .1 .1 .0)) ≡ c .k .given .0 .0 - 1
 long c = length-take-le _ _ (let w = g c in omega arith)
@@ -39,6 +39,9 @@ array-share-prefix-bytes c = let w = g (c .before .before) in omega arith
 
 slice-aggregate-load-frame : tie.Need-slice-aggregate-load-frame
 slice-aggregate-load-frame c = sym (long (c .before .before .before))
+
+add-load-frame : tie.Need-add-load-frame
+add-load-frame c = let w = g (c .before .before .before) in omega (arith, w .inside)
 
 load-frame-requires : tie.Need-load-frame-requires
 load-frame-requires c κs = let w = g (c .before .before .before .before .before) in let l = long (c .before .before .before .before .before) in let p = c .before .before .before .before .before .before .before .before .before .before .before .before .before .pre in ((p .0 .0, p .0 .1 .bounded), (omega arith, omega arith, omega (arith, p .0 .1 .half, p .0 .1 .inside, p .0 .0 .bytes, p .1), p .1 .2, omega (arith, p .0 .1 .low, p .0 .0 .bytes, p .1), p .1 .3))
@@ -56,7 +59,7 @@ returns-2 : tie.Need-returns-2
 returns-2 c = reads-frame (c .before .before .before .before .before .before .before .before .before .before .before .before .before .before .before .before .before .before .pre .0 .1) _ _ (g (c .before .before .before .before .before .before .before .before .before .before)) (c .before .before .before .before .before .before .before .before .if1 .left) _ _ _ (c .before .before .before .before .load-frame .ensures)
 
 returns-3 : tie.Need-returns-3
-returns-3 c = reads-malformed (c .before .before .before .before .before .before .before .before .pre .0 .1) _ _ (walked-malformed _ _ (c .before .before .before .walk-line .ensures .0) (c .enum-told .given .1)) LineForm refl
+returns-3 c = reads-malformed (c .before .before .before .before .before .before .before .before .pre .0 .1) _ _ (walked-malformed _ _ (c .before .before .before .walk-line .ensures .1 .1 .0) (c .enum-told .given .1)) LineForm refl
 
 pub load-line-spec : {M : Type 1} → statement M
 load-line-spec =
@@ -69,6 +72,7 @@ load-line-spec =
     sub-n
     array-share-prefix-bytes
     slice-aggregate-load-frame
+    add-load-frame
     load-frame-requires
     enum-told
     same-length
