@@ -3,7 +3,7 @@ use mathlib.Core.Path.{_≡_, refl, ap, _∙_}
 use mathlib.Core.Bool.{Bool, true, false, cond}
 use mathlib.Core.List.{List, [], _∷_}
 use mathlib.Core.Option.{Option, none, some}
-use Prim.Native.Nat.{ℕ, zero, suc, _+_, _*_, _≤_}
+use Prim.Native.Nat.{ℕ, suc, _+_, _*_, _≤_}
 use native.Mathlib.Omega.{arith}
 use lib.Dec.{eqb}
 use lib.ListN.{length, take, drop}
@@ -11,14 +11,13 @@ use Rattle.model.specs.Bytes.{Lines, more, rest, push, linesOf, digit, items}
 use Rattle.model.specs.Looks.{own, wellFormed, Looks}
 use Rattle.codec.proofs.Hex.{length-hex, hex-bytes}
 use Rattle.walk.specs.Pairs.{firstDigit, joined, pairOf, second, toTell}
-use Rattle.walk.specs.Walked.{Framed, Spoilt, Walked, looked, behind, looksOf}
-use Rattle.walk.specs.declared.Pair.{Pair}
-use Rattle.walk.specs.declared.Pair.the-variants.{Byte, End, Broken}
+use Rattle.walk.specs.Walked.{Framed, Spoilt, Walked, looked}
+use Rattle.walk.specs.declared.Pair.the-variants.{Byte, End}
 use Rattle.walk.specs.declared.Walk.{Walk}
 use Rattle.walk.specs.declared.Walk.the-variants.{Frame, Malformed}
 use Rattle.walk.proofs.Carried.{length-line}
 use Rattle.walk.proofs.Digits.{digit-no-end}
-use Rattle.walk.proofs.Fronts.{not-end, joined-no-end, pushes, front-pair}
+use Rattle.walk.proofs.Fronts.{Front, not-end, joined-no-end, pushes}
 
 -- ---- how many bytes tell what stands at the front
 second-byte : (s : List ℕ) (v : ℕ) (h l : Option ℕ) → firstDigit s ≡ l → joined h l ≡ Byte v → second h s ≡ 1
@@ -40,17 +39,6 @@ pub tell-end : (s : List ℕ) → pairOf s ≡ End → toTell s ≡ 1
 unfolding pairOf toTell
 tell-end [] e = let z : _≡_ {A = ℕ} 0 1 = cc in absurd (omega arith)
 tell-end (a ∷ s) e = ap suc (second-end a s (digit a) refl e)
-
--- ---- the looks of a walk
-pub looks-byte : (m : ℕ) (s : List ℕ) (v : ℕ) → pairOf s ≡ Byte v → looksOf (suc m) s ≡ toTell s + looksOf m (drop 2 s)
-unfolding looksOf
-looks-byte m s v e = rw e
-
--- nothing is looked at behind what is no pair of digits
-pub looks-last : (m : ℕ) (s : List ℕ) (p : Pair) → pairOf s ≡ p → ((n : ℕ) → behind p n ≡ 0) → looksOf m s ≡ toTell s
-unfolding looksOf
-looks-last zero s p e h = refl
-looks-last (suc m) s p e h = rw (e, h (looksOf m (drop 2 s))) (omega arith)
 
 -- ---- the line's own bytes
 own-push : (b : ℕ) (ls : Lines) → own (push b ls) ≡ suc (own ls)
@@ -75,7 +63,7 @@ own-second none s = omega arith
 own-second (some h) [] = omega arith
 own-second (some h) (b ∷ s) = own-some b s
 
-tell-own : (s : List ℕ) → toTell s ≤ own (linesOf s)
+pub tell-own : (s : List ℕ) → toTell s ≤ own (linesOf s)
 unfolding toTell own linesOf
 tell-own [] = omega arith
 tell-own (a ∷ s) = first (eqb a 0x0A) refl where
@@ -83,17 +71,8 @@ tell-own (a ∷ s) = first (eqb a 0x0A) refl where
   first true e = omega (arith, second-end a s (digit a) refl (rw e refl))
   first false e = rw (own-push a (linesOf s)) (omega (arith, own-second (digit a) s))
 
-own-pair : (s : List ℕ) (v : ℕ) → pairOf s ≡ Byte v → own (linesOf s) ≡ 2 + own (linesOf (drop 2 s))
-own-pair s v e = let f = front-pair s v e in ap own (f .lines) ∙ own-pushes (f .passed) (linesOf (drop 2 s)) ∙ ap (λ (n : ℕ). n + own (linesOf (drop 2 s))) (f .two)
-
-looks-most : (m : ℕ) (s : List ℕ) → looksOf m s ≤ own (linesOf s)
-unfolding looksOf
-looks-most zero s = tell-own s
-looks-most (suc m) s = first (pairOf s) refl (looks-most m (drop 2 s)) where
-  first : (p : Pair) → pairOf s ≡ p → looksOf m (drop 2 s) ≤ own (linesOf (drop 2 s)) → toTell s + behind p (looksOf m (drop 2 s)) ≤ own (linesOf s)
-  first (Byte v) e h = rw (own-pair s v e, tell-byte s v e) (omega arith)
-  first End e h = omega (arith, tell-own s)
-  first Broken e h = omega (arith, tell-own s)
+pub own-front : {f s t : List ℕ} → Front f s t → own (linesOf s) ≡ 2 * length f + own (linesOf t)
+own-front {t = t} r = ap own (r .lines) ∙ own-pushes (r .passed) (linesOf t) ∙ ap (λ (n : ℕ). n + own (linesOf t)) (r .two)
 
 -- ---- exactly these, where the line is well formed
 own-framed : {log out : List ℕ} {at k s next : ℕ} → Framed log at k s next out → own (linesOf (drop at log)) ≡ 2 * k + 1
@@ -104,10 +83,10 @@ spoilt-form : {log : List ℕ} {at : ℕ} → Spoilt log at → wellFormed (item
 unfolding wellFormed
 spoilt-form w e = let z : false ≡ true = rw (w .is) at e in let y : _≡_ {A = ℕ} 0 1 = cc in omega arith
 
--- What a walk tells, and the looks that it takes, make `Looks`.
-pub looks-told : (log out : List ℕ) (at : ℕ) (r : Walk) → Walked log at r out → looked r ≡ looksOf 100 (drop at log) → Looks (linesOf (drop at log)) (looked r)
-looks-told log out at (Frame k s n) w e = record { exact = λ f. omega (arith, w .after, own-framed w); most = rw e (looks-most 100 (drop at log)) }
-looks-told log out at (Malformed n) w e = record { exact = λ f. absurd (spoilt-form w f); most = rw e (looks-most 100 (drop at log)) }
+-- What a walk tells, with no more looks than the line has, makes `Looks`.
+pub looks-told : (log out : List ℕ) (at : ℕ) (r : Walk) → Walked log at r out → looked r ≤ own (linesOf (drop at log)) → Looks (linesOf (drop at log)) (looked r)
+looks-told log out at (Frame k s n) w h = record { exact = λ f. omega (arith, w .after, own-framed w); most = h }
+looks-told log out at (Malformed n) w h = record { exact = λ f. absurd (spoilt-form w f); most = h }
 
 -- ---- what `Looks` leaves out, and what it comes to
 own-formed : (ls : Lines) → wellFormed (items ls) ≡ true → 1 ≤ own ls

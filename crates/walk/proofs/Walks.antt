@@ -10,9 +10,9 @@ use lib.Seq.{take-suc-set, drop-drop, drop-set-lt, length-take-le}
 use Rattle.model.specs.Lists.{sum, total}
 use Rattle.model.specs.Bytes.{more, linesOf, bytes}
 use Rattle.lattice.proofs.Sums.{sum-snoc}
-use Rattle.model.specs.Looks.{Looks}
+use Rattle.model.specs.Looks.{own, Looks}
 use Rattle.walk.specs.Pairs.{pairOf, toTell}
-use Rattle.walk.specs.Walked.{Framed, Spoilt, Walked, looked, onto, lead, behind, looksOf}
+use Rattle.walk.specs.Walked.{Framed, Spoilt, Walked, looked, onto, lead, looksOf}
 use Rattle.walk.specs.declared.Walk.{Walk}
 use Rattle.walk.specs.declared.Walk.the-variants.{Frame, Malformed}
 use Rattle.cells.specs.Put.{putOf}
@@ -20,7 +20,7 @@ use Rattle.walk.specs.declared.Pair.{Pair}
 use Rattle.walk.specs.declared.Pair.the-variants.{Byte, End, Broken}
 use Rattle.walk.proofs.Fronts.{Front, front-none, front-join, front-pair, lines-end, pushes, pushes-more, ahead}
 use Rattle.cells.proofs.Puts.{put-front}
-use Rattle.walk.proofs.Looks.{tell-byte, tell-end, looks-byte, looks-last, looks-told}
+use Rattle.walk.proofs.Looks.{tell-byte, tell-end, tell-own, own-front, looks-told}
 use Rattle.walk.proofs.Refusals.{Refused, refused-faulty, refused-many, refused-few, refused-broken}
 
 -- ---- the pairs at the front
@@ -38,7 +38,6 @@ pub record Walking (log : List ℕ) (at : ℕ) (out₀ out : List ℕ) (k s n i 
   pub starts : at < length log
   pub place : i ≡ at + 2 * k
   pub count : n ≡ 2 * k
-  pub tells : looksOf 100 (drop at log) ≡ n + looksOf (100 - k) (drop i log)
   pub inside : i ≤ length log
   pub few : k ≤ 100
   pub room : length out ≡ 100
@@ -53,7 +52,6 @@ walk-start log at out h r = record {
   starts = h;
   place = omega arith;
   count = refl;
-  tells = omega arith;
   inside = omega arith;
   few = omega arith;
   room = r;
@@ -71,13 +69,6 @@ pair-more {log} {i = i} {v = v} w e = front-join (w .front) (rw (drop-drop 2 i l
 next-behind : {log out₀ out : List ℕ} {at k s n i : ℕ} → Walking log at out₀ out k s n i → drop (k + 1) out ≡ drop (k + 1) out₀
 next-behind {out₀ = out₀} {out = out} {k = k} w = sym (drop-drop 1 k out) ∙ ap (drop 1) (w .behind) ∙ drop-drop 1 k out₀
 
--- one look for each byte of it
-looks-more : {log out₀ out : List ℕ} {at k s n i v : ℕ} → Walking log at out₀ out k s n i → pairOf (drop i log) ≡ Byte v → k < 100
-    → looksOf 100 (drop at log) ≡ n + toTell (drop i log) + looksOf (100 - (k + 1)) (drop (i + 2) log)
-looks-more {log} {k = k} {n = n} {i = i} {v = v} w e few =
-    let more : looksOf (100 - k) (drop i log) ≡ looksOf (suc (100 - (k + 1))) (drop i log) = ap (λ (m : ℕ). looksOf m (drop i log)) (omega arith) in
-    w .tells ∙ rw (more, looks-byte (100 - (k + 1)) (drop i log) v e, drop-drop 2 i log) (omega arith)
-
 pub walk-byte : {log out₀ out : List ℕ} {at k s n i v m : ℕ} → Walking log at out₀ out k s n i → m ≡ n + toTell (drop i log) → pairOf (drop i log) ≡ Byte v → (k ≡ 100 → ⊥)
     → Walking log at out₀ (set out k v) (k + 1) ((s + v) % 256) m (i + 2)
 walk-byte {log} {out₀} {out} {at} {k} {s} {n} {i} {v} w c e h =
@@ -88,7 +79,6 @@ walk-byte {log} {out₀} {out} {at} {k} {s} {n} {i} {v} w c e h =
       starts = w .starts;
       place = omega (arith, w .place);
       count = omega (arith, w .count, c, tell-byte (drop i log) v e);
-      tells = rw c (looks-more w e few);
       inside = omega (arith, length-drop i log, length-drop 2 (drop i log), front-pair (drop i log) v e .long, front-pair (drop i log) v e .two);
       few = omega arith;
       room = length-set out k v ∙ w .room;
@@ -133,49 +123,53 @@ over f t h e = rw e (omega arith)
 
 -- ---- where the walk ends: the looks, what they told, and what it leaves
 abbrev Told : List ℕ → ℕ → List ℕ → Walk → List ℕ → Type 0
-Told log at out₀ r out = (looked r ≡ looksOf 100 (drop at log)) × (Looks (linesOf (drop at log)) (looked r) × (Walked log at r out × (out ≡ putOf out₀ 0 (lead 100 (drop at log)))))
+Told log at out₀ r out = (looked r ≡ looksOf (drop at log)) × (Looks (linesOf (drop at log)) (looked r) × (Walked log at r out × (out ≡ putOf out₀ 0 (lead 100 (drop at log)))))
 
 module _ {log out₀ out : List ℕ} {at k s n i m : ℕ} (w : Walking log at out₀ out k s n i) (c : m ≡ n + toTell (drop i log)) where
-  leaves : lead (100 - k) (drop i log) ≡ [] → out ≡ putOf out₀ 0 (lead 100 (drop at log))
-  leaves e =
-      let l : lead 100 (drop at log) ≡ take k out = w .leads ∙ ap (λ (x : List ℕ). take k out ++ x) e ∙ append-nil (take k out) in
-      sym (take-append-drop k out) ∙ ap (λ (x : List ℕ). take k out ++ x) (w .behind) ∙ ap (λ (n : ℕ). take k out ++ drop n out₀) (sym (length-bytes w)) ∙ sym (put-front out₀ (take k out)) ∙ ap (putOf out₀ 0) (sym l)
+  passed : lead (100 - k) (drop i log) ≡ [] → lead 100 (drop at log) ≡ take k out
+  passed e = w .leads ∙ ap (λ (x : List ℕ). take k out ++ x) e ∙ append-nil (take k out)
 
-  told : (r : Walk) → looked r ≡ m → Walked log at r out → lead (100 - k) (drop i log) ≡ [] → looksOf (100 - k) (drop i log) ≡ toTell (drop i log) → Told log at out₀ r out
-  told r e x l t =
-      let n : looked r ≡ looksOf 100 (drop at log) = e ∙ c ∙ sym (w .tells ∙ ap (λ (k : ℕ). n + k) t) in
-      (n, (looks-told log out at r x n, (x, leaves l)))
+  leaves : lead 100 (drop at log) ≡ take k out → out ≡ putOf out₀ 0 (lead 100 (drop at log))
+  leaves l = sym (take-append-drop k out) ∙ ap (λ (x : List ℕ). take k out ++ x) (w .behind) ∙ ap (λ (n : ℕ). take k out ++ drop n out₀) (sym (length-bytes w)) ∙ sym (put-front out₀ (take k out)) ∙ ap (putOf out₀ 0) (sym l)
 
-  -- what stands at i is no pair of digits
-  stopped : (p : Pair) → pairOf (drop i log) ≡ p → ((l : List ℕ) → onto p l ≡ []) → ((n : ℕ) → behind p n ≡ 0) → (r : Walk) → looked r ≡ m → Walked log at r out → Told log at out₀ r out
-  stopped p e l n r q x = told r q x (lead-last (100 - k) (drop i log) p e l) (looks-last (100 - k) (drop i log) p e n)
+  looks : lead 100 (drop at log) ≡ take k out → looksOf (drop at log) ≡ m
+  unfolding looksOf
+  looks l =
+      let b : drop (2 * k) (drop at log) ≡ drop i log = drop-drop (2 * k) at log ∙ ap (λ (j : ℕ). drop j log) (sym (w .place)) in
+      rw (l, length-bytes w, b) (omega (arith, c, w .count))
+
+  within-own : m ≤ own (linesOf (drop at log))
+  within-own = omega (arith, c, w .count, own-front (w .front), length-bytes w, tell-own (drop i log))
+
+  told : lead (100 - k) (drop i log) ≡ [] → (r : Walk) → looked r ≡ m → Walked log at r out → Told log at out₀ r out
+  told e r q x = let l = passed e in (q ∙ sym (looks l), (looks-told log out at r x (rw q within-own), (x, leaves l)))
 
   many : (v : ℕ) → pairOf (drop i log) ≡ Byte v → k ≡ 100 → Spoilt log at
   many v e h = spoilt (pair-more w e) (refused-many (take k out ++ (v ∷ [])) (linesOf (drop (i + 2) log)) (simp length-append (omega (arith, length-bytes w))))
 
   pub told-many : {v : ℕ} → pairOf (drop i log) ≡ Byte v → k ≡ 100 → Told log at out₀ (Malformed m) out
-  unfolding lead looksOf
-  told-many {v} e h = told (Malformed m) refl (many v e h) (rw h) (rw h)
+  unfolding lead
+  told-many {v} e h = told (rw h) (Malformed m) refl (many v e h)
 
   few : pairOf (drop i log) ≡ End → k < 2 → Spoilt log at
   few e h = spoilt (w .front) (rw (end-at log i e) (refused-few (take k out) (linesOf (drop (i + 1) log)) (omega (arith, length-bytes w))))
 
   pub told-few : pairOf (drop i log) ≡ End → k < 2 → Told log at out₀ (Malformed m) out
-  told-few e h = stopped End e (λ l. refl) (λ n. refl) (Malformed m) refl (few e h)
+  told-few e h = told (lead-last (100 - k) (drop i log) End e (λ l. refl)) (Malformed m) refl (few e h)
 
   pub told-frame : i < length log → pairOf (drop i log) ≡ End → 2 ≤ k → Told log at out₀ (Frame k s m) out
   told-frame h e two =
       let next : i + 1 ≡ at + m = omega (arith, w .place, w .count, c, tell-end (drop i log) e) in
-      stopped End e (λ l. refl) (λ n. refl) (Frame k s m) refl (rw next at (framed w h e two))
+      told (lead-last (100 - k) (drop i log) End e (λ l. refl)) (Frame k s m) refl (rw next at (framed w h e two))
 
   broken : i < length log → pairOf (drop i log) ≡ Broken → Spoilt log at
   broken h e = spoilt (w .front) (refused-broken (take k out) (drop i log) (simp length-drop (omega arith)) e)
 
   pub told-broken : i < length log → pairOf (drop i log) ≡ Broken → Told log at out₀ (Malformed m) out
-  told-broken h e = stopped Broken e (λ l. refl) (λ n. refl) (Malformed m) refl (broken h e)
+  told-broken h e = told (lead-last (100 - k) (drop i log) Broken e (λ l. refl)) (Malformed m) refl (broken h e)
 
 pub told-over : {log out₀ out : List ℕ} {at k s n i : ℕ} → Walking log at out₀ out k s n i → length log ≤ i → Told log at out₀ (Malformed n) out
 unfolding pairOf toTell
 told-over {log} {out = out} {k = k} {n = n} {i = i} w h =
     let z : drop i log ≡ [] = drop-of-length-le log h in
-    stopped w (rw z (omega arith)) Broken (rw z) (λ l. refl) (λ n. refl) (Malformed n) refl (spoilt (w .front) (over (take k out) (drop i log) (omega (arith, length-bytes w, w .starts, w .place)) z))
+    told w (rw z (omega arith)) (lead-last (100 - k) (drop i log) Broken (rw z) (λ l. refl)) (Malformed n) refl (spoilt (w .front) (over (take k out) (drop i log) (omega (arith, length-bytes w, w .starts, w .place)) z))

@@ -50,13 +50,6 @@ unfoldable pub lead : ℕ → List ℕ → List ℕ
 lead zero s = []
 lead (suc m) s = onto (pairOf s) (lead m (drop 2 s))
 
--- What is looked at behind a pair of digits, and nothing behind anything else.
-abbrev pub behind : Pair → ℕ → ℕ
-behind (Byte b) n = n
-behind End n = 0
-behind Broken n = 0
-
--- The looks of a walk over at most m pairs of digits and what stands behind them.
-unfoldable pub looksOf : ℕ → List ℕ → ℕ
-looksOf zero s = toTell s
-looksOf (suc m) s = toTell s + behind (pairOf s) (looksOf m (drop 2 s))
+-- The looks of a walk: both digits of each of these pairs, and what tells what stands behind them.
+unfoldable pub looksOf : List ℕ → ℕ
+looksOf s = 2 * length (lead 100 s) + toTell (drop (2 * length (lead 100 s)) s)

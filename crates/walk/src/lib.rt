@@ -73,7 +73,7 @@ fn read_pair(log: &[u8], i: usize, looks: &mut usize) -> Pair
 // The line that starts at `at`: its bytes go to the front of `out` and into the sum, pair by pair.
 pub fn walk_line(log: &[u8], at: usize, out: &mut [u8]) -> Walk
     requires { ⌜ (at < length (now log)) × (length (now out) ≡ 100) ⌝ }
-    ensures { λ r. ⌜ looked r ≡ looksOf 100 (drop at (now (log .entry))) ⌝ }
+    ensures { λ r. ⌜ looked r ≡ looksOf (drop at (now (log .entry))) ⌝ }
     ensures { λ r. ⌜ Looks (linesOf (drop at (now (log .entry)))) (looked r) ⌝ }
     ensures { λ r. ⌜ Walked (now (log .entry)) at r (now (out .exit)) ⌝ }
     ensures { λ _. ⌜ now (out .exit) ≡ putOf (now (out .entry)) 0 (lead 100 (drop at (now (log .entry)))) ⌝ }
