@@ -1,6 +1,6 @@
-"""The cases of document 01's bench section and limits for Answer, Holds and the program, and what is to come of each."""
-from frames import ONE, atom, case, in_turn, log_of
-from listing import Listing, Refused, answer_line, encode, printed, read
+"""The cases of document 01's bench section and limits for Forecast, Answer, Holds and the program, and what is to come of each."""
+from frames import ONE, WORKSPACE, atom, case, in_turn, log_of
+from listing import Listing, Refused, answer_line, encode, forecast, printed, read
 
 Q = [3] + atom(0, 5, 5) + atom(1, 1, 1)
 QUESTIONS = [
@@ -60,23 +60,43 @@ def ladder(stations, k):
     return log_of([[0x10, stations] + [0, 0] * stations] + in_turn(stations, k, lambda i: i % 4) + [[0x30] + wide, [0x30] + barred])
 
 
-def replied(data, q, cut=None, short=0, size=300):
+def deep(stations, k):
+    """Stations that send on in turn, with a question that holds 36 structures and has the highest ceiling, the most that there can be."""
+    parts = [atom(stations - 1, 0, 3)] * 4 + [[4] + atom(j % stations, 0, j % 4) + atom((j + 1) % stations, 1, 3) for j in range(4)]
+    question = [b for p in parts[:-1] for b in [3] + p] + parts[-1]
+    return log_of([[0x10, stations] + [0, 0] * stations] + in_turn(stations, k, lambda i: i % 4) + [[0x30] + question])
+
+
+def asked(data, q):
+    """The log, and its question of a number."""
+    log = read(data)
+    if q >= len(log.questions):
+        raise Refused(10)
+    return log, log.questions[q]
+
+
+def foretold(data, q):
+    """What Forecast prints."""
+    try:
+        return " ".join(["", *map(str, forecast(*asked(data, q)))]) + "\n"
+    except Refused as r:
+        return f" refused {r.number} {r.line}\n"
+
+
+def replied(data, q, cut=None, cells=WORKSPACE, short=0, size=300):
     """What Answer, or Holds at a cut, prints."""
     letter = "A" if cut is None else "H"
     try:
-        log = read(data)
-        if q >= len(log.questions):
-            raise Refused(10)
-        listing = Listing(log)
-        if cut is not None and tuple(cut) not in listing.cuts:
+        log, f = asked(data, q)
+        if cut is not None and tuple(cut) not in Listing(log).cuts:
             raise Refused(13)
-        if short:
+        if short or cells < forecast(log, f)[3]:
             raise Refused(11)
         if cut is None and size < 273:
             raise Refused(12)
     except Refused as r:
         return f"{letter} refused {r.number} {r.line} kept\n"
-    f = log.questions[q]
+    listing = Listing(log)
     if cut is None:
         return "A kept\n" + answer_line(*listing.answer(f)).decode()
     return "H yes\n" if tuple(cut) in listing.true(f) else "H no\n"
@@ -86,31 +106,73 @@ def program(data):
     return case("P", data), b"P\n" + printed(data)
 
 
-def answer(data, q, short=0, size=300):
-    return case("A", data, q, (), short, size), replied(data, q, None, short, size).encode()
+def foretells(data, q):
+    return case("F", data, q), f"F{foretold(data, q)}".encode()
 
 
-def holds(data, q, cut, short=0):
-    return case("H", data, q, cut, short), replied(data, q, cut, short).encode()
+def answer(data, q, cells=WORKSPACE, short=0, size=300):
+    return case("A", data, q, (), short, cells, size), replied(data, q, None, cells, short, size).encode()
+
+
+def holds(data, q, cut, cells=WORKSPACE, short=0):
+    return case("H", data, q, cut, short, cells), replied(data, q, cut, cells, short).encode()
+
+
+def about(data, q):
+    """The cells that are forecast for a question, one less and one more."""
+    cells = forecast(*asked(data, q))[3]
+    return cells - 1, cells, cells + 1
+
+
+LOGS = (BENCH, ALL, ZERO, HEAD, b"", b"\n", WIDE18, chain(127), chain(128), chain(0), HEADER, b"0" * 8193, ladder(3, 24), ladder(2, 40))
+REFUSED = (BENCH[:-1], b"", BENCH.lower(), WIDE18, chain(128))
+
+
+def forecasts():
+    """Every question of the bench's logs and of some larger ones, and numbers past the last; logs that are refused."""
+    for data in (*LOGS, deep(1, 127), deep(8, 127), deep(8, 0), ladder(8, 127)):
+        for q in range(17):
+            yield foretells(data, q)
+            if "refused" in foretold(data, q):
+                break
+    for data in (ALL, *REFUSED):
+        yield foretells(data, 255)
+
+
+def rooms():
+    """Answer and Holds lent the cells that are forecast, one less and one more, or none; and a bar space one cell short."""
+    for f in QUESTIONS + THROUGH_ZERO:
+        data = HEAD + encode([0x30] + f)
+        for cells in about(data, 0):
+            yield answer(data, 0, cells)
+            yield holds(data, 0, (0, 0), cells)
+            yield holds(data, 0, (1, 1), cells)
+    for short in (0, 1):
+        for cells in (0, *about(BENCH, 0), WORKSPACE):
+            for size in (0, 272, 273, 300):
+                yield answer(BENCH, 0, cells, short, size)
+                yield answer(BENCH, 1, cells, short, size)
+            for cut in [(1, 1), (1, 0), (0, 2), (1,), (2, 0)]:
+                yield holds(BENCH, 0, cut, cells, short)
+                yield holds(BENCH, 7, cut, cells, short)
+    for data in REFUSED:
+        yield answer(data, 0, 0, 1, 0)
+        yield holds(data, 0, (9,), 0, 1)
+    for data in (chain(0), chain(127), deep(1, 0), deep(1, 127), deep(2, 40), deep(3, 24)):
+        for cells in about(data, 0):
+            yield answer(data, 0, cells)
+    yield answer(deep(8, 127), 0, about(deep(8, 127), 0)[0])
 
 
 def cases():
-    for data in (BENCH, ALL, ZERO, HEAD, b"", b"\n", WIDE18, chain(127), chain(128), chain(0), HEADER, b"0" * 8193, ladder(3, 24), ladder(2, 40)):
+    for data in LOGS:
         yield program(data)
     for data in (ALL, ZERO):
         for q in range(len(QUESTIONS) + 1):
             yield answer(data, q)
             for cut in [(a, b) for a in range(3) for b in range(4)] + [(), (0,), (0, 0, 0)]:
                 yield holds(data, q, cut)
-    for short in (0, 1, 2, 3):
-        for size in (0, 272, 273, 300):
-            yield answer(BENCH, 0, short, size)
-            yield answer(BENCH, 1, short, size)
-        for cut in [(1, 1), (1, 0), (0, 2), (1,), (2, 0)]:
-            yield holds(BENCH, 0, cut, short)
-            yield holds(BENCH, 7, cut, short)
-    for data in (BENCH[:-1], b"", BENCH.lower(), WIDE18, chain(128)):
-        yield answer(data, 0, 3, 0)
-        yield holds(data, 0, (9,), 3)
+    yield from forecasts()
+    yield from rooms()
     for q in (0, 1):
         yield answer(ladder(3, 24), q)

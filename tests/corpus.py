@@ -1,11 +1,12 @@
-"""A corpus of small logs and what the program is to print for each, by a plain listing of every cut.
+"""A corpus of small logs and what the program is to print for each, by a plain listing of every cut; and what each question can cost.
 
 Logs have 1 to 4 stations, up to 8 events and questions nested up to 5 deep; about two in five are damaged in a way that document 01
 names. Some more meet its limits: 16 cuts, structures and bars, over 65,535 rounds, 65 rounds a start, 0 and 9 stations; and some ask
 about ranges through zero.
 """
-from itertools import islice
+from itertools import count, islice
 
+from bench_cases import foretold
 from frames import ONE, Draw, atom, case, computation, drawn_atom, formula, log_of, word
 from listing import encode, printed
 
@@ -224,6 +225,18 @@ def logs(seed):
     yield encode(ONE)[:-1]
 
 
+def each(data):
+    """What the program prints, then of each question its forecast, and Answer lent one cell less than that and lent just these cells."""
+    shown = printed(data)
+    answers = shown.splitlines(keepends=True)
+    for q in count():
+        told = foretold(data, q)
+        shown += told.encode()
+        if "refused" in told:
+            return shown
+        shown += b" refused 11 0 kept\n kept\n" + answers[q]
+
+
 def cases(seed):
     for log in logs(seed):
-        yield case("P", log), b"P\n" + printed(log)
+        yield case("E", log), b"E\n" + each(log)

@@ -29,17 +29,20 @@ def in_turn(n, k, value):
 
 # CASES
 
-def case(letter, data, question=0, cut=(), short=0, size=0):
+WORKSPACE = 65535  # the most cells that a case can lend
+
+
+def case(letter, data, question=0, cut=(), short=0, cells=WORKSPACE, size=0):
     """A case's bytes, as crates/trial reads them."""
-    return letter.encode() + bytes([question, len(cut), short] + word(size) + word(len(data)) + list(cut)) + bytes(data)
+    return letter.encode() + bytes([question, len(cut), short] + word(cells) + word(size) + word(len(data)) + list(cut)) + bytes(data)
 
 
 def parted(stdin, stdout):
     """The letter of each case, its log or list, and the lines printed behind the one with its letter."""
     at = 0
     for out in re.split(rb"^(?=[A-Z])", stdout, flags=re.M)[1:]:
-        start = at + 8 + stdin[at + 2]
-        end = start + stdin[at + 6] * 256 + stdin[at + 7]
+        start = at + 10 + stdin[at + 2]
+        end = start + stdin[at + 8] * 256 + stdin[at + 9]
         yield chr(stdin[at]), stdin[start:end], out.partition(b"\n")[2]
         at = end
 

@@ -1,7 +1,8 @@
-"""Document 01 by a plain listing of every consistent cut: slow, small, and sharing no code with the product.
+"""Document 01, as document 02's tickets amend it, by a plain listing of every consistent cut: slow, small, and sharing no code with
+the product.
 
 A log is read with the refusals of document 01 in its order. A set of cuts is the list of its cuts, so raising a cut is a search
-through that list; rounds are counted over such sets.
+through that list; rounds are counted over such sets. What a question can cost is worked out from its formula alone.
 """
 from functools import cache
 from itertools import product
@@ -95,6 +96,46 @@ def size(f, sign, seen):
         w, b = (w, 0) if joined_as(t, sign) == "possibly" else (1, w)
     seen.append((w, b))
     return w, b
+
+
+def width(f, sign):
+    return size(f, sign, [])[0]
+
+
+def operand_sign(t, sign):
+    """The sign that an operand of a token is used in."""
+    return {2: not sign, 5: True, 6: False}.get(t, sign)
+
+
+def held(f, sign):
+    """Structures held under a sign: document 02, ticket 3."""
+    t, result = f[0], width(f, sign)
+    if t == 1:
+        return 1
+    under = operand_sign(t, sign)
+    figures, widths = [held(g, under) for g in f[1:]], [width(g, under) for g in f[1:]]
+    if t == 2:
+        return figures[0]
+    if t in (3, 4):
+        return max(figures[0], widths[0] + figures[1], sum(widths) + result)
+    return max(figures[0], widths[0] + result)
+
+
+def products(f, sign):
+    """The products of both widths, added up over the signs joined as "and"."""
+    if f[0] == 1:
+        return 0
+    under = operand_sign(f[0], sign)
+    joined = f[0] in (3, 4) and joined_as(f[0], sign) == "and"
+    return sum(products(g, under) for g in f[1:]) + (width(f[1], under) * width(f[2], under) if joined else 0)
+
+
+def forecast(log, f):
+    """Width, largest bar count at any token, structures held, the cells these take, and a ceiling for the rounds."""
+    seen, starts = [], log.events() + 1
+    size(f, True, seen)
+    structures = held(f, True)
+    return width(f, True), max(b for _, b in seen), structures, structures * len(log.initial) * starts, products(f, True) * starts**2
 
 
 def admit(log, f):

@@ -25,7 +25,7 @@ RULES = {
     "last round uncounted": {"return (d, rounds);": "return (d, rounds - (d == c) as u32);"},
     "early stop after an empty start": {"            self.rounds += rounds;\n": "            self.rounds += rounds;\n            if rows[0] == NONE {\n                break;\n            }\n"},
     "right operand skipped": {
-        "let (left, right) = (self.basis(f, sign), self.basis(f, sign));": "let left = self.basis(f, sign);\nlet rounds = self.rounds;\nlet right = self.basis(f, sign);\nif left.is_empty() { self.rounds = rounds }"
+        "let (left, right) = self.operands(f, sign);\n": "let left = self.basis(f, sign);\nlet rounds = self.rounds;\nlet right = self.basis(f, sign);\nif left.is_empty() { self.rounds = rounds }"
     },
     "unsorted": {"        all.sort_unstable();\n        all.dedup();\n": "        let mut seen = Vec::new();\n        all.retain(|c| !seen.contains(c) && { seen.push(*c); true });\n"},
     "duplicates kept": {"        all.dedup();\n": "", "k != i && contained": "all[k] != all[i] && contained"},
@@ -35,7 +35,7 @@ RULES = {
     "every start from the empty cut": {"&right.rows, self.starts[i]);": "&right.rows, self.starts[0]);"},
     "the smaller count in a join": {"*x = (*x).max(*y);": "*x = (*x).min(*y);"},
     "bars of the left side alone": {"left.bars.iter().chain(&right.bars).copied()": "left.bars.iter().copied()"},
-    "bars lost in not possibly": {"let bars = self.basis(f, !sign).iter().map(": "let bars = self.basis(f, !sign).iter().take(0).map("},
+    "bars lost in not possibly": {"let bars: Vec<Cut> = self.basis(f, !sign).iter().map(": "let bars: Vec<Cut> = self.basis(f, !sign).iter().take(0).map("},
     "bars kept in possibly": {"        s.bars.clear();\n": ""},
     "range as true under not": {"within(lo, hi, v) == sign": "within(lo, hi, v)"},
     "bars not looked at by the start": {" && !s.bars.iter().any(|b| contained(c, b))": ""},
@@ -51,23 +51,70 @@ RULES = {
     "bytes after the formula": {"if q.is_empty() { Ok(tokens)": "if true { Ok(tokens)"},
     "line of 101 bytes": {"bytes: &'a mut [u8; 100]": "bytes: &'a mut [u8; 101]", "(Log::default(), [0; 100])": "(Log::default(), [0; 101])", "digits.len() > 200": "digits.len() > 202"},
     "line one too low": {"log.admit(f)).map_err(|fault| Refusal(fault, i as u32 + 1))?": "log.admit(f)).map_err(|fault| Refusal(fault, i as u32))?"},
-    "width of and adds": {"(v * w, a + b)": "(v + w, a + b)"},
-    "width 17 accepted": {"if width > 16 {": "if width > 17 {"},
-    "bars of and not added": {"(v * w, a + b)": "(v * w, a.max(b))"},
+    "width of and adds": {"joined(l, r, l.width * r.width, l.bars + r.bars)": "joined(l, r, l.width + r.width, l.bars + r.bars)"},
+    "width 17 accepted": {"if s.width > 16 {": "if s.width > 17 {"},
+    "bars of and not added": {"joined(l, r, l.width * r.width, l.bars + r.bars)": "joined(l, r, l.width * r.width, l.bars.max(r.bars))"},
     "own predecessor not looked at": {"(j == s) as usize;\n": "(j == s) as usize;\n            if j == s { continue }\n"},
     "a header of 9 stations": {"if n as usize > STATIONS {": "if n as usize > STATIONS + 1 {"},
     "a header of no station": {"if n < 1 {": "if false {"},
     "15 cuts listed at most": {"cuts.len() as u8]": "cuts.len().min(15) as u8]", "cuts.iter().for_each(|c| f": "cuts.iter().take(15).for_each(|c| f"},
     "15 structures at most": {"        out.retain(|s| !s.dropped());\n": "        out.retain(|s| !s.dropped());\n        out.truncate(15);\n"},
-    "15 bars at most": {"let bars = self.basis(f, !sign).iter().map(": "let bars = self.basis(f, !sign).iter().take(15).map("},
+    "15 bars at most": {"let bars: Vec<Cut> = self.basis(f, !sign).iter().map(": "let bars: Vec<Cut> = self.basis(f, !sign).iter().take(15).map("},
     "15 bars of the right side at most": {".chain(&right.bars)": ".chain(right.bars.iter().take(15))"},
     "64 rounds a start at most": {"            c = d;\n": "            if rounds == 64 {\n                return (d, rounds);\n            }\n            c = d;\n"},
     "rounds of 14 bits": {"rounds.to_be_bytes()": "(rounds % 16384).to_be_bytes()"},
     "rounds of two bytes": {"rounds.to_be_bytes()": "(rounds % 65536).to_be_bytes()"},
+    "held without the result's width": {".max(l.width + r.width + width);": ".max(l.width + r.width);"},
+    "held without the left's width": {".max(l.width + r.held)": ".max(r.held)"},
+    "held without the left's figure": {"l.held.max(l.width + r.held)": "(l.width + r.held)"},
+    "held with the left's figure twice": {".max(l.width + r.held)": ".max(l.held + r.held)"},
+    "held of the operand under possibly": {"held: p.held.max(p.width + width)": "held: p.held"},
+    "not possibly holds its bars": {"lifted(p, 1, p.width)": "Size { held: p.held.max(2 * p.width), ..lifted(p, 1, p.width) }"},
+    "largest bars those of the whole": {"most: bars.max(l.most).max(r.most)": "most: bars", "most: bars.max(p.most)": "most: bars"},
+    "ceiling takes or for and": {
+        "products: both.products + l.width * r.width, ..both": "..both",
+        "joined(l, r, l.width + r.width, l.bars.max(r.bars))":
+            "Size { products: l.products + r.products + l.width * r.width, ..joined(l, r, l.width + r.width, l.bars.max(r.bars)) }",
+    },
+    "ceiling of the last and alone": {"products: both.products + l.width * r.width": "products: l.width * r.width"},
+    "ceiling of both widths added": {"products: both.products + l.width * r.width": "products: both.products + l.width + r.width"},
+    "ceiling without the empty start": {"s.products * starts * starts": "s.products * starts * log.events"},
+    "cells without the least cut": {"s.held * log.stations() * starts,": "s.held * log.stations() * log.events,"},
+    "cells of eight stations": {"s.held * log.stations() * starts,": "s.held * 8 * starts,"},
+    "cells of one structure less": {"s.held * log.stations() * starts,": "(s.held - 1) * log.stations() * starts,"},
+    "just the cells refused": {"if workspace < cells {": "if workspace <= cells {"},
+    "one cell less accepted": {"if workspace < cells {": "if workspace + 1 < cells {"},
     "lower case digits": {"b'A'..=b'F' =>": "b'a'..=b'f' => Ok(b - b'a' + 10),\n        b'A'..=b'F' =>"},
 }
 
-# Answers the logs of the corpus one by one, by the rule of the number given: a line with a full stop closes each but the last.
+# What a case of the corpus prints: what the program does, and of each question its forecast, and what Answer comes to, lent one cell less
+# than that and lent just these cells: a refusal, or the program's line.
+TOLD = """
+pub fn told(data: &[u8]) -> Vec<u8> {
+    use fault::Refusal;
+    use operations::*;
+    let refused = |Refusal(fault, line): Refusal, kept: &str| format!(" refused {} {line}{kept}\\n", fault.number()).into_bytes();
+    let shown = printed(data);
+    let (mut out, mut lines) = (shown.clone(), shown.split_inclusive(|&b| b == b'\\n'));
+    for q in 0.. {
+        let costs = match forecast(data, q) {
+            Ok(costs) => costs,
+            Err(r) => return [out, refused(r, "")].concat(),
+        };
+        let ([width, bars, held, cells, ceiling], line) = (costs, lines.next().unwrap());
+        out.extend(format!(" {width} {bars} {held} {cells} {ceiling}\\n").bytes());
+        for lent in [cells - 1, cells] {
+            out.extend(match room(costs, lent, BARS) {
+                Ok(()) => [b" kept\\n", line].concat(),
+                Err(r) => refused(r, " kept"),
+            });
+        }
+    }
+    out
+}
+"""
+
+# Tells of the logs of the corpus one by one, by the rule of the number given: a line with a full stop closes each but the last.
 MAIN = """
 use std::io::{Read, Write};
 fn main() {
@@ -78,7 +125,7 @@ fn main() {
     let (mut log, mut out) = (Vec::new(), Vec::new());
     for line in data.split_inclusive(|&b| b == b'\\n').chain([&b".\\n"[..]]) {
         if line == b".\\n" {
-            out.extend(std::panic::catch_unwind(|| PRINTED[rule](&log)).unwrap_or(b"panicked\\n".to_vec()));
+            out.extend(std::panic::catch_unwind(|| TOLD[rule](&log)).unwrap_or(b"panicked\\n".to_vec()));
             out.extend(b".\\n");
             log.clear();
         } else {
@@ -104,7 +151,7 @@ def module(folder, i, edits):
     for part in PARTS[own:]:
         (folder / f"m{i}" / f"{part}.rs").write_text(texts[part].replace("crate::", f"crate::m{i}::"))
     shared = "".join(f"pub use crate::m0::{part};\n" for part in PARTS[:own])
-    (folder / f"m{i}.rs").write_text(shared + "".join(f"pub mod {part};\n" for part in PARTS[own:]))
+    (folder / f"m{i}.rs").write_text(shared + "".join(f"pub mod {part};\n" for part in PARTS[own:]) + TOLD)
 
 
 def build(folder):
@@ -112,8 +159,8 @@ def build(folder):
     for i, edits in enumerate([{}, *RULES.values()]):
         module(folder, i, edits)
     all_of = range(len(RULES) + 1)
-    printed = ", ".join(f"m{i}::operations::printed" for i in all_of)
-    table = f"static PRINTED: [fn(&[u8]) -> Vec<u8>; {len(all_of)}] = [{printed}];\n"
+    told = ", ".join(f"m{i}::told" for i in all_of)
+    table = f"static TOLD: [fn(&[u8]) -> Vec<u8>; {len(all_of)}] = [{told}];\n"
     (folder / "main.rs").write_text("".join(f"mod m{i};\n" for i in all_of) + table + MAIN)
     subprocess.run(["rustc", "--edition", "2021", "-C", "opt-level=1", "-A", "warnings", "main.rs"], cwd=folder, check=True)
 
@@ -121,7 +168,7 @@ def build(folder):
 def corpus():
     """The logs of the corpus, and what is to be printed for each."""
     made = parted(*((CASES / name).read_bytes() for name in ("stdin", "stdout")))
-    return zip(*[(log, printed) for letter, log, printed in made if letter == "P"][:LOGS])
+    return zip(*[(log, printed) for letter, log, printed in made if letter == "E"][:LOGS])
 
 
 def answers(folder, i, logs):

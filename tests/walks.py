@@ -15,7 +15,7 @@ def walked(data, at):
         printed = f"L {len(found)} {total} {looks} {found.hex()} kept\n"
     except Refused:
         printed = "L malformed\n"
-    return case("L", data, 0, word(at) + word(own(data, at)), 0, 100), printed.encode()
+    return case("L", data, cut=word(at) + word(own(data, at)), size=100), printed.encode()
 
 
 def around(line):

@@ -39,7 +39,7 @@ fn all_equal(which: &str, log: &[u8], expected: &[u8]) -> Result<(), String> {
 /// The letter and the log of each of the test program's cases; crates/trial says how they stand in its input.
 fn cases(input: &[u8]) -> Option<Vec<(u8, &[u8])>> {
     let (mut cases, mut rest) = (Vec::new(), input);
-    while let Some((&[letter, _, cut, _, _, _, high, low], after)) = rest.split_first_chunk() {
+    while let Some((&[letter, _, cut, _, _, _, _, _, high, low], after)) = rest.split_first_chunk() {
         let (log, next) = after.get(cut as usize..)?.split_at_checked(u16::from_be_bytes([high, low]) as usize)?;
         cases.push((letter, log));
         rest = next;
@@ -59,6 +59,11 @@ fn outputs(printed: &[u8]) -> Vec<Vec<u8>> {
     outputs
 }
 
+/// What the program prints of that: the lines before those about a forecast, which begin with a space.
+fn program(printed: &[u8]) -> Vec<u8> {
+    printed.split_inclusive(|&b| b == 0x0A).take_while(|line| line[0] != b' ').flatten().copied().collect()
+}
+
 fn file(name: &str) -> Result<Vec<u8>, String> {
     let path = format!("{CASES}/{name}");
     read(&path).map_err(|e| format!("{path}: {e}"))
@@ -71,9 +76,9 @@ pub fn run(logs: u64, seed: u64) -> Result<u64, String> {
     if cases.is_empty() || cases.len() != expected.len() {
         return Err(format!("{CASES} has {} cases and {} outputs", cases.len(), expected.len()));
     }
-    let corpus: Vec<_> = cases.iter().zip(&expected).filter(|((letter, _), _)| *letter == b'P').collect();
-    for (i, ((_, log), expected)) in corpus.iter().enumerate() {
-        all_equal(&format!("case P number {} of {CASES}", i + 1), log, expected)?;
+    let corpus: Vec<_> = cases.iter().zip(&expected).filter(|((letter, _), _)| b"EP".contains(letter)).collect();
+    for (i, ((_, log), printed)) in corpus.iter().enumerate() {
+        all_equal(&format!("log {} of {CASES}", i + 1), log, &program(printed))?;
     }
     for seed in seed..seed + logs {
         let Case { log, .. } = Case::new(seed);

@@ -25,7 +25,7 @@ module _ (log : List ℕ) (q ws bs : ℕ) (out : List ℕ) where
   promised : (reply : Reply) (out′ : List ℕ) → reply ≡ (answerOp limits log q ws bs out) .reply → out′ ≡ (answerOp limits log q ws bs out) .output
       → (K : Computation) (f : Formula) → Asked limits log q K f → (m : ℕ) → reply ≡ gives (m ∷ []) → Answered K f (take m out′)
   unfolding answerOp answerEffect lineEffect
-  promised reply out′ e o K f a m g = by (cramped ws bs) (ltb (length out) lineSize) (rw (asked-opens suitable a))
+  promised reply out′ e o K f a m g = by (cramped K f ws bs) (ltb (length out) lineSize) (rw (asked-opens suitable a))
     where
       l : List ℕ
       l = answerLine (answer K f)
@@ -53,15 +53,15 @@ module _ (log : List ℕ) (q ws bs : ℕ) (out : List ℕ) where
   answer-shut k n e = rw e
 
   module _ (K : Computation) (f : Formula) (e : opening limits log q ≡ poses K f) where
-    pub answer-cramped : cramped ws bs ≡ true → answerOp limits log q ws bs out ≡ refuse 11 0 out
+    pub answer-cramped : cramped K f ws bs ≡ true → answerOp limits log q ws bs out ≡ refuse 11 0 out
     unfolding answerOp answerEffect
     answer-cramped h = rw (e, h)
 
-    pub answer-short : cramped ws bs ≡ false → length out < lineSize → answerOp limits log q ws bs out ≡ refuse 12 0 out
+    pub answer-short : cramped K f ws bs ≡ false → length out < lineSize → answerOp limits log q ws bs out ≡ refuse 12 0 out
     unfolding answerOp answerEffect lineEffect
     answer-short h o = rw (e, h, lt-ltb (length out) lineSize o)
 
-    pub answer-line : cramped ws bs ≡ false → lineSize ≤ length out → answerOp limits log q ws bs out ≡ write (length (answerLine (answer K f)) ∷ []) (answerLine (answer K f)) out
+    pub answer-line : cramped K f ws bs ≡ false → lineSize ≤ length out → answerOp limits log q ws bs out ≡ write (length (answerLine (answer K f)) ∷ []) (answerLine (answer K f)) out
     unfolding answerOp answerEffect lineEffect
     answer-line h o = rw (e, h, le-ltb (length out) lineSize o)
 

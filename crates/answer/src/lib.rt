@@ -10,7 +10,7 @@ ghost use mathlib.Core.Path.{_≡_};
 ghost use mathlib.Core.List.{List, [], _∷_};
 ghost use Prim.Native.Nat.{ℕ, _≤_, _<_};
 ghost use lib.ListN.{length, take};
-ghost use Rattle.model.specs.Limits.{limits, storeSize, workspaceSize, barspaceSize, lineSize};
+ghost use Rattle.model.specs.Limits.{limits, storeSize, barspaceSize, lineSize};
 ghost use Rattle.model.specs.Formula.{Formula};
 ghost use Rattle.model.specs.Computation.{Computation};
 ghost use Rattle.model.specs.Answer.{answer, answerLine};
@@ -51,7 +51,7 @@ pub fn answer(
     match outcome {
         Acceptance::Refused(refusal) => LineAnswer::Refused(refusal),
         Acceptance::Accepted => {
-            let tight = cramped(ws.len(), bs.len());
+            let tight = cramped(&list, loaded, question, ws.len(), bs.len());
             let short = out.len() < Log::LINE;
             if tight {
                 return refused(Fault::Workspace);

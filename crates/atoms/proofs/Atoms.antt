@@ -11,16 +11,22 @@ use Rattle.model.specs.Atom.{Atom, operands, atomOf, soundAtom}
 use Rattle.model.specs.Formula.{sign, token, weigh, sound}
 use Rattle.model.specs.Formula.Formula.{atom}
 use Rattle.model.specs.Rules.{asTrue, asFalse}
-use Rattle.model.specs.Size.{width, bars, slim, narrow}
+use Rattle.model.specs.Size.{width, bars, held, slim, narrow}
+use Rattle.model.specs.Forecast.{mostBars}
 use Rattle.lattice.specs.Signed.{normal}
 use Rattle.codec.specs.Formulas.{formulas}
 use Rattle.codec.proofs.Formulas.{formulas-token, formulas-atom, formulas-sign}
+use Rattle.extents.specs.declared.Figures.{Figures}
 use Rattle.extents.specs.declared.Extent.the-variants.{Narrow}
-use Rattle.extents.specs.Extents.{extentOf}
+use Rattle.extents.specs.Extents.{pairsOf, figuresOf, extentOf}
 use Rattle.atoms.specs.Measured.{first, Sized}
 
-extent-atom : (s : Bool) (a : Atom) → Narrow 1 0 ≡ extentOf (normal s (atom a))
-unfolding extentOf asTrue asFalse narrow slim width bars
+-- One structure, without bars.
+abbrev one-structure : Figures
+one-structure = record { width = 1; bars = 0; most = 0; held = 1; pairs = 0 }
+
+extent-atom : (s : Bool) (a : Atom) → Narrow one-structure ≡ extentOf (normal s (atom a))
+unfolding extentOf figuresOf pairsOf asTrue asFalse narrow slim width bars held mostBars
 extent-atom true a = refl
 extent-atom false a = refl
 
@@ -33,7 +39,7 @@ module _ (t k : ℕ) (q : List ℕ) (e : operands t ≡ some k) where
       (n : ℕ) (s : Bool) {b : Bool}
       → k ≤ length q
       → b ≡ soundAtom n (atomOf t q)
-      → Sized n s (t ∷ q) (record { used = suc k; tokens = 1; atoms = 1; sound = b; extent = Narrow 1 0 })
+      → Sized n s (t ∷ q) (record { used = suc k; tokens = 1; atoms = 1; sound = b; extent = Narrow one-structure })
   unfolding weigh sound
   sized-atom n s h o =
       record {

@@ -1,5 +1,6 @@
 // What stands at the front of a question's bytes, told for a token that is no sign: an atom's, or unknown.
 use extents::Extent;
+use extents::Figures;
 ghost use mathlib.Core.Bool.{Bool};
 ghost use mathlib.Core.List.{_∷_};
 ghost use Prim.Native.Nat.{_<_};
@@ -34,7 +35,13 @@ fn range(rest: &[u8], n: usize) -> Front
         tokens: 1,
         atoms: 1,
         sound: s < n,
-        extent: Extent::Narrow(1, 0),
+        extent: Extent::Narrow(Figures {
+            width: 1,
+            bars: 0,
+            most: 0,
+            held: 1,
+            pairs: 0,
+        }),
     })
 }
 

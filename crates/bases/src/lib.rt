@@ -8,9 +8,10 @@ ghost use lib.ListN.{length};
 ghost use Rattle.model.specs.Limits.{limits, storeSize, workspaceSize, barspaceSize};
 ghost use Rattle.model.specs.Formula.{Formula};
 ghost use Rattle.model.specs.Computation.{Computation};
+ghost use Rattle.model.specs.Forecast.{forecast};
 ghost use Rattle.structure.specs.Shaped.{Shaped};
 ghost use Rattle.load.specs.Loading.{Accepts};
-ghost use Rattle.question.specs.Questions.{Question, cellsHeld};
+ghost use Rattle.question.specs.Questions.{Question};
 ghost use Rattle.opening.specs.Prepared.{Prepared};
 
 // The bars at a place.
@@ -59,7 +60,7 @@ fn print_structures(ws: &[u8], bs: &[u8], count: usize, x: Shape)
 
 // The basis of one question, and its rounds.
 fn print_basis(q: &[u8], x: Shape, starts: &[u8], facts: &[u16], ws: &mut [u8], bs: &mut [u8])
-    requires { ⌜ ((K : Computation) × (f : Formula) × Question K f (now q) x (now starts) (now facts) × (cellsHeld f x ≤ length (now ws))) ⌝ }
+    requires { ⌜ ((K : Computation) × (f : Formula) × Question K f (now q) x (now starts) (now facts) × (forecast K f .cells ≤ length (now ws))) ⌝ }
     requires { ⌜ barspaceSize ≤ length (now bs) ⌝ }
 {
     let basis = question::work_out(q, x, starts, facts, ws, bs);

@@ -1,6 +1,7 @@
 // Runs the operations and the program on the cases of standard input, and prints what each hands back and leaves in what was lent to it.
-// A case's letter says what is run: R for Read, W for Write, A for Answer, H for Holds, P for the program, L for the walk over a line,
-// and any other the bases.
+// A case's letter says what is run: R for Read, W for Write, F for Forecast, A for Answer, H for Holds, P for the program, E for the
+// program and then each question by its forecast, L for the walk over a line, and any other the bases.
+use model::ForecastAnswer;
 use model::HoldsAnswer;
 use model::LineAnswer;
 use model::Log;
@@ -81,6 +82,46 @@ fn print_case(log: &[u8]) {
     io::write_all(1, &out[0..m]);
 }
 
+// Forecasts a question of the log: hands back the cells, 0 if it is refused.
+fn forecast_case(log: &[u8], question: usize) -> usize {
+    match forecast::forecast(log, question) {
+        ForecastAnswer::Given(f) => {
+            let cells = f.cells;
+            trial::print_forecast(f);
+            cells
+        }
+        ForecastAnswer::Refused(r) => {
+            trial::print_unforeseen(r);
+            0
+        }
+    }
+}
+
+// Answers a question of the log in a workspace of so many cells.
+fn answer_within(log: &[u8], question: usize, cells: usize) {
+    if Log::WORKSPACE < cells {
+        return;
+    }
+    let mut ws = lent_workspace();
+    let mut bs = lent_bars();
+    let mut out = lent_output();
+    answer_case(log, question, &mut ws[0..cells], &mut bs, &mut out);
+}
+
+// Forecasts each question of the log, and answers it lent one cell less than forecast, and lent just these cells.
+fn each_case(log: &[u8]) {
+    let mut q = 0;
+    while q <= Log::QUESTIONS {
+        let cells = forecast_case(log, q);
+        if cells == 0 {
+            return;
+        }
+        answer_within(log, q, cells - 1);
+        answer_within(log, q, cells);
+        q += 1;
+    }
+}
+
 // Runs a case in what is lent to it.
 fn run_case(c: Case, cut: &[u8], data: &[u8], ws: &mut [u8], bs: &mut [u8], out: &mut [u8]) {
     let letter = c.letter;
@@ -89,12 +130,17 @@ fn run_case(c: Case, cut: &[u8], data: &[u8], ws: &mut [u8], bs: &mut [u8], out:
         read_case(data, out);
     } else if letter == b'W' {
         write_case(data, out);
+    } else if letter == b'F' {
+        forecast_case(data, c.question);
     } else if letter == b'A' {
         answer_case(data, c.question, ws, bs, out);
     } else if letter == b'H' {
         holds_case(data, c.question, cut, ws, bs, out);
     } else if letter == b'P' {
         print_case(data);
+    } else if letter == b'E' {
+        print_case(data);
+        each_case(data);
     } else if letter == b'L' {
         walk_case(data, cut, out);
     } else {
@@ -128,8 +174,11 @@ fn lend(c: Case, cut: &[u8], data: &[u8]) {
     let mut ws = lent_workspace();
     let mut bs = lent_bars();
     let mut out = lent_output();
-    let cells = Log::WORKSPACE - c.short % 2;
-    let bars = Log::BARSPACE - c.short / 2 % 2;
+    let cells = c.cells;
+    if Log::WORKSPACE < cells {
+        return;
+    }
+    let bars = Log::BARSPACE - c.short % 2;
     run_case(
         c,
         cut,

@@ -9,10 +9,11 @@ use lib.ListN.{length, take, drop, getElem?}
 use lib.Seq.{take-at}
 use borrow.Author.Tests.{le-ltb}
 use Rattle.model.specs.declared.Limits.{Limits}
-use Rattle.model.specs.Limits.{workspaceSize, barspaceSize, lineSize}
+use Rattle.model.specs.Limits.{barspaceSize, lineSize}
 use Rattle.model.specs.Formula.{Formula}
 use Rattle.model.specs.Cut.{Cut}
 use Rattle.model.specs.Computation.{Computation, Consistent, stations}
+use Rattle.model.specs.Forecast.{forecast}
 use Rattle.model.specs.Answer.{Answer, trueAt, answer, yesNo, answerLine}
 use Rattle.model.specs.Reading.{Reading, Result, refused, accepted, readLog}
 use Rattle.model.specs.Reply.{gives}
@@ -60,11 +61,11 @@ module _ {m : Limits} (fit : Suitable m) {log : List ℕ} {q : ℕ} {K : Computa
 
   -- With room enough:
 
-  module _ (ws bs : ℕ) (hw : workspaceSize ≤ ws) (hb : barspaceSize ≤ bs) where
+  module _ (ws bs : ℕ) (hw : forecast K f .cells ≤ ws) (hb : barspaceSize ≤ bs) where
     -- Answer writes the answer's line and gives its length.
     pub asked-written : (out : List ℕ) → lineSize ≤ length out → answerOp m log q ws bs out ≡ write (length (answerLine (answer K f)) ∷ []) (answerLine (answer K f)) out
     unfolding answerOp answerEffect lineEffect cramped
-    asked-written out h = rw (asked-opens, le-ltb ws workspaceSize hw, le-ltb bs barspaceSize hb, le-ltb (length out) lineSize h)
+    asked-written out h = rw (asked-opens, le-ltb ws (forecast K f .cells) hw, le-ltb bs barspaceSize hb, le-ltb (length out) lineSize h)
 
     -- So demand 3 holds of what stands at the front of the output.
     pub asked-output : (out : List ℕ) → lineSize ≤ length out → Answered K f (take (length (answerLine (answer K f))) (answerOp m log q ws bs out .output))
@@ -75,7 +76,7 @@ module _ {m : Limits} (fit : Suitable m) {log : List ℕ} {q : ℕ} {K : Computa
     -- Holds replies what the test at a consistent cut comes to.
     pub asked-replied : (c : Cut) → Consistent K c → holdsOp m log q c ws bs ≡ gives (yesNo (trueAt K f c) ∷ [])
     unfolding holdsOp holdsReplyTo cramped
-    asked-replied c p = rw (asked-opens, consistent-iff K c .1 p, le-ltb ws workspaceSize hw, le-ltb bs barspaceSize hb)
+    asked-replied c p = rw (asked-opens, consistent-iff K c .1 p, le-ltb ws (forecast K f .cells) hw, le-ltb bs barspaceSize hb)
 
     -- So demand 2 holds of the reply.
     pub asked-holds : (c : Cut) → Consistent K c → Tested K f c (holdsOp m log q c ws bs)

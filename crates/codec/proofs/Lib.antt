@@ -18,5 +18,6 @@ pub mod RoundTrip
 pub mod Operations
 pub mod Suited
 pub mod Demands
+pub mod Forecast
 pub mod Printed
 pub mod Input

@@ -44,7 +44,8 @@ module _ (log : List ℕ) (r : Reading) (e : readLog printLimits log ≡ accepte
         let x = line-at (r .computation) (r .questions) q line j in
         let same : x .0 ≡ f = cc in
         rw (x .2, same) (asked-answered print-suitable (asked q f i));
-    unchanged = λ q line j ws bs out hw hb ho.
+    unchanged = λ q f line i j ws bs out hw hb ho.
         let x = line-at (r .computation) (r .questions) q line j in
-        rw (x .2) (asked-written print-suitable (asked q (x .0) (x .1)) ws bs hw hb out ho);
+        let same : x .0 ≡ f = cc in
+        rw (x .2, same) (asked-written print-suitable (asked q f i) ws bs hw hb out ho);
   }

@@ -1,13 +1,14 @@
-// The four operations for C and Rust: numbers and byte slices in, a reply packed in one number out.
+// The operations for C and Rust: numbers and byte slices in, a reply packed in one number out.
 use packing::packed_answer;
+use packing::packed_forecast;
 use packing::packed_holds;
 use packing::packed_read;
 use packing::packed_write;
 ghost use mathlib.Core.Path.{_≡_};
 ghost use lib.ListN.{length};
 ghost use Rattle.model.specs.Limits.{limits};
-ghost use Rattle.model.specs.Operations.{readOp, writeOp, answerOp, holdsOp, Kept};
-ghost use Rattle.packing.specs.Packed.{packed, readWidths, writeWidths, answerWidths, holdsWidths};
+ghost use Rattle.model.specs.Operations.{readOp, writeOp, forecastOp, answerOp, holdsOp, Kept};
+ghost use Rattle.packing.specs.Packed.{packed, readWidths, writeWidths, forecastWidths, answerWidths, holdsWidths};
 
 // Read: the counts of stations, events and questions and the list's length, or a refusal.
 #[no_mangle]
@@ -25,6 +26,14 @@ pub extern "C" fn moment_write(list: &[u8], out: &mut [u8]) -> u64
     ensures { λ _. ⌜ now (out .exit) ≡ writeOp limits (now (list .entry)) (now (out .entry)) .output ⌝ }
 {
     packed_write(log::write(list, out))
+}
+
+// Forecast: width, largest bar count, structures held, cells and ceiling for the rounds, or a refusal.
+#[no_mangle]
+pub extern "C" fn moment_forecast(log: &[u8], question: usize) -> u64
+    ensures { λ v. ⌜ v ≡ packed forecastWidths (forecastOp limits (now (log .entry)) question) ⌝ }
+{
+    packed_forecast(forecast::forecast(log, question))
 }
 
 // Answer: the line's length, or a refusal.

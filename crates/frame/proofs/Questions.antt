@@ -11,7 +11,7 @@ use Rattle.model.specs.Formula.{Formula, formulaOf, sound}
 use Rattle.model.specs.Size.{fits}
 use Rattle.model.specs.Computation.{stations}
 use Rattle.model.specs.Reading.{Reading, withQuestion, check, asked, admit, admitQuestion, go, fault}
-use Rattle.query.specs.Judged.{judged}
+use Rattle.query.specs.Judged.{judged, faultOf}
 use Rattle.frame.specs.declared.State.{State}
 use Rattle.frame.specs.declared.Step.the-variants.{Next}
 use Rattle.frame.specs.State.{afterQuestion, Bounded, Goes, Admits}
@@ -24,7 +24,7 @@ record Asks (r : Reading) (q : List ℕ) (o : Option Formula) : Type 0 where
   pub step : asked r q o ≡ go (withQuestion r q formula)
 
 module _ (r : Reading) (q : List ℕ) where
-  asked-wrong : (o : Option Formula) (k : ℕ) → judged (stations (r .computation)) o ≡ some k → asked r q o ≡ fault k
+  asked-wrong : (o : Option Formula) (k : ℕ) → faultOf (judged (stations (r .computation)) o) ≡ some k → asked r q o ≡ fault k
   unfolding asked judged check
   asked-wrong none k e = ap fault (cc)
   asked-wrong (some φ) k e = case (sound (stations (r .computation)) φ) refl (fits φ) refl where
@@ -33,7 +33,7 @@ module _ (r : Reading) (q : List ℕ) where
     case true x false y = let z : _≡_ {A = Option ℕ} (some 9) (some k) = sym (rw (x, y)) ∙ e in rw (x, y) (ap fault (cc))
     case false x b y = let z : _≡_ {A = Option ℕ} (some 8) (some k) = sym (rw x) ∙ e in rw x (ap fault (cc))
 
-  asked-right : (o : Option Formula) → judged (stations (r .computation)) o ≡ none → Asks r q o
+  asked-right : (o : Option Formula) → faultOf (judged (stations (r .computation)) o) ≡ none → Asks r q o
   unfolding asked judged check
   asked-right none e = let w : _≡_ {A = ℕ} 0 1 = cc in absurd (omega arith)
   asked-right (some φ) e = record { formula = φ; step = case (sound (stations (r .computation)) φ) refl (fits φ) refl } where
@@ -60,13 +60,13 @@ module _ (m : Limits) {r : Reading} {s : State} {f t : List ℕ} (g : Frame 0x30
   unfolding admitQuestion check
   placed a b = tried ∙ rw (begun-yes (g .holds) (λ e. omega arith), questions-room (g .holds) m b)
 
-  verdict : (v : Option ℕ) → v ≡ judged (s .stations) (formulaOf (drop 1 f)) → judged (stations (r .computation)) (formulaOf (drop 1 f)) ≡ v
+  verdict : (v : Option ℕ) → v ≡ faultOf (judged (s .stations) (formulaOf (drop 1 f))) → faultOf (judged (stations (r .computation)) (formulaOf (drop 1 f))) ≡ v
   verdict v e = rw (g .holds .stored .size) (sym e)
 
-  pub wrong : 0 < s .stations → s .questions < m .questions → (k : ℕ) → some k ≡ judged (s .stations) (formulaOf (drop 1 f)) → admit m r f ≡ fault k
+  pub wrong : 0 < s .stations → s .questions < m .questions → (k : ℕ) → some k ≡ faultOf (judged (s .stations) (formulaOf (drop 1 f))) → admit m r f ≡ fault k
   wrong a b k e = placed a b ∙ asked-wrong r (drop 1 f) (formulaOf (drop 1 f)) k (verdict (some k) e)
 
-  goes : 0 < s .stations → s .questions < m .questions → none ≡ judged (s .stations) (formulaOf (drop 1 f))
+  goes : 0 < s .stations → s .questions < m .questions → none ≡ faultOf (judged (s .stations) (formulaOf (drop 1 f)))
       → Goes m r f (afterQuestion s) t
   goes a b e =
       let k : Asks r (drop 1 f) (formulaOf (drop 1 f)) = asked-right r (drop 1 f) (formulaOf (drop 1 f)) (verdict none e) in
@@ -82,7 +82,7 @@ module _ (m : Limits) {r : Reading} {s : State} {f t : List ℕ} (g : Frame 0x30
         };
       }
 
-pub question-next : {m : Limits} {s : State} {f : List ℕ} (t : List ℕ) → Bounded m s → 1 ≤ length f → getD f 0 0 ≡ 0x30 → 0 < s .stations → s .questions < m .questions → none ≡ judged (s .stations) (formulaOf (drop 1 f))
+pub question-next : {m : Limits} {s : State} {f : List ℕ} (t : List ℕ) → Bounded m s → 1 ≤ length f → getD f 0 0 ≡ 0x30 → 0 < s .stations → s .questions < m .questions → none ≡ faultOf (judged (s .stations) (formulaOf (drop 1 f)))
     → Admits m s f t (record { step = Next; state = afterQuestion s }) t
 question-next {m} t b l k n o e = record {
   bounded = record { few-stations = b .few-stations; few-events = b .few-events; few-questions = omega arith; eight = b .eight; each = b .each };

@@ -10,18 +10,18 @@ ghost use lib.ListN.{length, getD, drop};
 ghost use Rattle.model.specs.Formula.{formulaOf};
 ghost use Rattle.model.specs.Limits.{limits};
 ghost use Rattle.codec.specs.Limits.{NoLarger};
-ghost use Rattle.query.specs.Judged.{judged, faultOf};
+ghost use Rattle.query.specs.Judged.{judged};
 ghost use Rattle.frame.specs.State.{Bounded, Admits};
 
 // The step that the verdict on a question in its place brings.
 fn rule(m: model::Limits, s: State, frame: &[u8], verdict: query::Verdict) -> Admitted
     requires { ⌜ Bounded m s ⌝ }
     requires { ⌜ (1 ≤ length (now frame)) × (getD (now frame) 0 0 ≡ 48) × (0 < s .stations) × (m .questions ≤ limits .questions) × (s .questions < m .questions) ⌝ }
-    requires { ⌜ faultOf verdict ≡ judged (s .stations) (formulaOf (drop 1 (now frame))) ⌝ }
+    requires { ⌜ verdict ≡ judged (s .stations) (formulaOf (drop 1 (now frame))) ⌝ }
     ensures { λ r. ⌜ ((t : List ℕ) → Admits m s (now (frame .entry)) t r t) ⌝ }
 {
     match verdict {
-        query::Verdict::Fine => {
+        query::Verdict::Fine(_) => {
             let next = s.with_question();
             Admitted {
                 step: Step::Next,

@@ -4,10 +4,11 @@ use mathlib.Core.Bool.{Bool, true, false}
 use mathlib.Core.List.{List, [], _∷_}
 use Prim.Native.Nat.{ℕ, _≤_}
 use lib.ListN.{length}
-use Rattle.model.specs.Limits.{limits, workspaceSize, barspaceSize}
+use Rattle.model.specs.Limits.{limits, barspaceSize}
 use Rattle.model.specs.Formula.{Formula}
 use Rattle.model.specs.Cut.{Cut}
 use Rattle.model.specs.Computation.{Computation, Consistent, isConsistent}
+use Rattle.model.specs.Forecast.{forecast}
 use Rattle.model.specs.Answer.{trueAt, yesNo}
 use Rattle.model.specs.Reply.{Reply, gives, refuses}
 use Rattle.model.specs.Operations.{Kept, shut, poses, opening, cramped, holdsReplyTo, holdsOp}
@@ -27,11 +28,11 @@ module _ (log : List ℕ) (q : ℕ) (c : Cut) (ws bs : ℕ) where
     holds-inconsistent p = rw (e, p)
 
     module _ (p : isConsistent K c ≡ true) where
-      pub holds-cramped : cramped ws bs ≡ true → holdsOp limits log q c ws bs ≡ refuses 11 0
+      pub holds-cramped : cramped K f ws bs ≡ true → holdsOp limits log q c ws bs ≡ refuses 11 0
       unfolding holdsOp holdsReplyTo
       holds-cramped h = rw (e, p, h)
 
-      pub holds-told : cramped ws bs ≡ false → (b : Bool) → trueAt K f c ≡ b → holdsOp limits log q c ws bs ≡ gives (yesNo b ∷ [])
+      pub holds-told : cramped K f ws bs ≡ false → (b : Bool) → trueAt K f c ≡ b → holdsOp limits log q c ws bs ≡ gives (yesNo b ∷ [])
       unfolding holdsOp holdsReplyTo
       holds-told h b t = rw (e, p, h, t)
 
@@ -40,11 +41,11 @@ abbrev pub Told : List ℕ → ℕ → Cut → List ℕ → List ℕ → Reply �
 Told log q c ws bs reply ws′ bs′ =
     (reply ≡ holdsOp limits log q c (length ws) (length bs))
     × ((Kept reply ws ws′ × Kept reply bs bs′)
-    × ((K : Computation) (f : Formula) → Asked limits log q K f → Consistent K c → workspaceSize ≤ length ws → barspaceSize ≤ length bs → Tested K f c reply))
+    × ((K : Computation) (f : Formula) → Asked limits log q K f → Consistent K c → forecast K f .cells ≤ length ws → barspaceSize ≤ length bs → Tested K f c reply))
 
 module _ (log : List ℕ) (q : ℕ) (c : Cut) (ws bs : List ℕ) where
   promised : (reply : Reply) → reply ≡ holdsOp limits log q c (length ws) (length bs)
-      → (K : Computation) (f : Formula) → Asked limits log q K f → Consistent K c → workspaceSize ≤ length ws → barspaceSize ≤ length bs → Tested K f c reply
+      → (K : Computation) (f : Formula) → Asked limits log q K f → Consistent K c → forecast K f .cells ≤ length ws → barspaceSize ≤ length bs → Tested K f c reply
   promised reply e K f a p hw hb = rw e (asked-holds suitable a (length ws) (length bs) hw hb c p)
 
   pub told-refused : (reply : Reply) (k n : ℕ) → reply ≡ refuses k n → holdsOp limits log q c (length ws) (length bs) ≡ refuses k n → Told log q c ws bs reply ws bs

@@ -10,9 +10,10 @@ ghost use mathlib.Core.Path.{_≡_};
 ghost use mathlib.Core.List.{List, [], _∷_};
 ghost use Prim.Native.Nat.{ℕ, _≤_};
 ghost use lib.ListN.{length};
-ghost use Rattle.model.specs.Limits.{limits, storeSize, workspaceSize, barspaceSize};
+ghost use Rattle.model.specs.Limits.{limits, storeSize, barspaceSize};
 ghost use Rattle.model.specs.Formula.{Formula};
 ghost use Rattle.model.specs.Computation.{Computation, Consistent};
+ghost use Rattle.model.specs.Forecast.{forecast};
 ghost use Rattle.model.specs.Answer.{trueAt, yesNo};
 ghost use Rattle.model.specs.Reply.{gives, refuses, number, holdsReply};
 ghost use Rattle.model.specs.Operations.{Kept, holdsOp};
@@ -45,7 +46,7 @@ fn told(yes: bool) -> HoldsAnswer
 pub fn holds(log: &[u8], question: usize, cut: &[u8], ws: &mut [u8], bs: &mut [u8]) -> HoldsAnswer
     ensures { λ r. ⌜ holdsReply r ≡ holdsOp limits (now (log .entry)) question (now (cut .entry)) (length (now (ws .entry))) (length (now (bs .entry))) ⌝ }
     ensures { λ r. ⌜ Kept (holdsReply r) (now (ws .entry)) (now (ws .exit)) × Kept (holdsReply r) (now (bs .entry)) (now (bs .exit)) ⌝ }
-    ensures { λ r. ⌜ ((K : Computation) (f : Formula) → Asked limits (now (log .entry)) question K f → Consistent K (now (cut .entry)) → workspaceSize ≤ length (now (ws .entry)) → barspaceSize ≤ length (now (bs .entry)) → Tested K f (now (cut .entry)) (holdsReply r)) ⌝ }
+    ensures { λ r. ⌜ ((K : Computation) (f : Formula) → Asked limits (now (log .entry)) question K f → Consistent K (now (cut .entry)) → forecast K f .cells ≤ length (now (ws .entry)) → barspaceSize ≤ length (now (bs .entry)) → Tested K f (now (cut .entry)) (holdsReply r)) ⌝ }
 {
     let mut list = [0u8; Log::LIST];
     let mut store = [0u8; Log::STORE];
@@ -57,7 +58,7 @@ pub fn holds(log: &[u8], question: usize, cut: &[u8], ws: &mut [u8], bs: &mut [u
             let s = loaded.state;
             let counts = s.counts;
             let inside = layout::consistent::consistent(cut, &store, s.stations, &counts);
-            let small = cramped(ws.len(), bs.len());
+            let small = cramped(&list, loaded, question, ws.len(), bs.len());
             if !inside {
                 return refused(Fault::Cut);
             }

@@ -10,6 +10,7 @@ use Rattle.model.specs.Cut.{Cut, empty}
 use Rattle.model.specs.Computation.{Computation, Consistent, stations, eventCount}
 use Rattle.model.specs.Rules.{asTrue}
 use Rattle.model.specs.Size.{narrow, fits}
+use Rattle.model.specs.Forecast.{forecast}
 use Rattle.model.specs.Rounds.{rounds}
 use Rattle.model.specs.Answer.{trueAt, answer, yesNo, answerLine}
 use Rattle.model.specs.Reply.{Reply, gives}
@@ -19,9 +20,9 @@ use Rattle.lattice.proofs.Tests.{clash}
 use Rattle.lattice.proofs.Consistency.{empty-consistent}
 use Rattle.lattice.proofs.Theorem.{tested, untested}
 use Rattle.lattice.proofs.Maximal.{maximal, listed-iff, listed-ascending, true-below, never-iff}
-use Rattle.lattice.proofs.Rounds.{all-by-rule, rounds-bound, rounds-fit}
+use Rattle.lattice.proofs.Rounds.{all-by-rule, rounds-ceiling, rounds-bound, rounds-fit}
 use Rattle.lattice.proofs.Held.{fits-to, fits-signs}
-use Rattle.lattice.proofs.Line.{listed-few, listed-size, listed-count}
+use Rattle.lattice.proofs.Line.{listed-width, listed-few, listed-size, listed-count}
 
 said-yes : (b : Bool) → (_≡_ {A = Reply} (gives (yesNo b ∷ [])) (gives (1 ∷ []))) ↔ (b ≡ true)
 said-yes true = (λ h. refl, λ h. refl)
@@ -40,7 +41,7 @@ told K ok f c p = record {
 
 -- Demand 3.
 pub answered : (K : Computation) → Valid K → eventCount K < 256 → (f : Formula) → fits f ≡ true → Answered K f (answerLine (answer K f))
-unfolding answer
+unfolding answer forecast
 answered K ok e f h = record {
   start = trueAt K f (empty (stations K));
   cuts = maximal K f;
@@ -58,6 +59,8 @@ answered K ok e f h = record {
   counted = refl;
   by-rule = all-by-rule K ok (asTrue f);
   bounded = rounds-bound K f slender;
+  under-ceiling = rounds-ceiling K (asTrue f);
+  within-width = listed-width K f;
 }
   where
     slender : narrow (asTrue f) ≡ true

@@ -9,7 +9,7 @@ use native.Mathlib.Decide.{decLe}
 use mathlib.Core.Bool.{true, _&&_}
 use lib.Dec.{leb}
 use borrow.Author.Tests.{leb-true}
-use Rattle.model.specs.Limits.{limits, workspaceSize, barspaceSize, startsSize}
+use Rattle.model.specs.Limits.{limits, barspaceSize}
 use Rattle.model.specs.Formula.{Formula, tokens, atoms, signs}
 use Rattle.model.specs.Rules.{Normal, asTrue}
 use Rattle.model.specs.Rules.Normal.{literal, both, either, possible, impossible}
@@ -127,13 +127,6 @@ held-atoms f h = rw (weight-true 1 0 f) at (five-held (asTrue f) (fits-to f h .2
 -- At most 54 structures are held.
 pub held-le : (f : Formula) → fits f ≡ true → held (asTrue f) ≤ 54
 held-le f h = omega (arith, held-atoms f h, fits-to f h .1)
-
--- The workspace suffices.
-pub workspace-fits : (f : Formula) → fits f ≡ true → (n e : ℕ) → n ≤ limits .stations → e ≤ limits .events → held (asTrue f) * (suc e * n) ≤ workspaceSize
-workspace-fits f h n e a b =
-    let c : suc e * n ≤ startsSize = mul-le-mul {n₁ = suc e} {m₁ = n} {n₂ = limits .events + 1} {m₂ = limits .stations} (omega arith) a in
-    let d : held (asTrue f) * (suc e * n) ≤ 54 * startsSize = mul-le-mul {n₁ = held (asTrue f)} {m₁ = suc e * n} {n₂ = 54} {m₂ = startsSize} (held-le f h) c in
-    omega (arith, d)
 
 -- The bar space suffices.
 pub barspace-fits : (f : Formula) → fits f ≡ true → (n : ℕ) → n ≤ limits .stations → held (asTrue f) * (16 * n) ≤ barspaceSize

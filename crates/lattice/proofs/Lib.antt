@@ -32,5 +32,6 @@ pub mod Weights
 pub mod Signed
 pub mod Rounds
 pub mod Held
+pub mod Forecast
 pub mod Line
 pub mod Answers

@@ -1,5 +1,5 @@
 -- The rounds: every start follows the rule.
--- Their bound: a pair takes at most (events + 1) rounds from each of events + 1 starts, and a sign has at most 16 pairs.
+-- Their bounds: a pair takes at most (events + 1) rounds from each of events + 1 starts, and a sign has no more pairs than the product of both widths, at most 16.
 use mathlib.Core.Path.{_≡_, sym, subst}
 use Prim.Native.Nat.{ℕ, suc, _+_, _*_, _≤_, _<_, _^_}
 use native.Mathlib.Omega.{arith}
@@ -14,6 +14,7 @@ use Rattle.model.specs.Computation.{Computation, Event, stations, eventCount, c
 use Rattle.model.specs.Rules.{Normal, asTrue}
 use Rattle.model.specs.Rules.Normal.{literal, both, either, possible, impossible}
 use Rattle.model.specs.Size.{width, narrow}
+use Rattle.model.specs.Forecast.{ceiling}
 use Rattle.model.specs.Structure.{Structure}
 use Rattle.model.specs.Basis.{start, basis}
 use Rattle.model.specs.Rounds.{roundsOfPair, roundsOfPairs, rounds, PairByRule, AllByRule}
@@ -65,21 +66,33 @@ pub pairs-le : (K : Computation) (L R : List Structure) → roundsOfPairs K L R 
 unfolding roundsOfPairs
 pairs-le K L R = sum-le (λ S. sum (roundsOfPair K S) R) (length R * square K) (λ S. sum-le (roundsOfPair K S) (square K) (pair-le K S) R) L
 
--- Pairs of two bases whose widths multiply to at most 16.
-pub sixteen : (K : Computation) (L R : List Structure) (v w : ℕ) → length L ≤ v → length R ≤ w → v * w ≤ 16 → roundsOfPairs K L R ≤ 16 * square K
-sixteen K L R v w a b h = omega (arith, pairs-le K L R, mul-le-mul-right (square K) (le-trans (mul-le-mul a b) h))
+-- Pairs of two bases, by their widths.
+pairs-width : (K : Computation) (p q : Normal) → roundsOfPairs K (basis K p) (basis K q) ≤ width p * width q * square K
+pairs-width K p q = omega (arith, pairs-le K (basis K p) (basis K q), mul-le-mul-right (square K) (mul-le-mul (basis-width K p) (basis-width K q)))
 
 -- FORMULAS
 
--- Of a narrow normal form, by its signs.
+-- Never above the ceiling, whatever the formula.
+pub rounds-ceiling : (K : Computation) (p : Normal) → rounds K p ≤ ceiling (eventCount K) p
+unfolding rounds ceiling
+rounds-ceiling K (literal b a) = omega arith
+rounds-ceiling K (both p q) = omega (arith, rounds-ceiling K p, rounds-ceiling K q, pairs-width K p q)
+rounds-ceiling K (either p q) = omega (arith, rounds-ceiling K p, rounds-ceiling K q)
+rounds-ceiling K (possible p) = rounds-ceiling K p
+rounds-ceiling K (impossible p) = rounds-ceiling K p
+
+-- The ceiling of a narrow normal form, by its signs.
+pub ceiling-normal : (e : ℕ) (p : Normal) → narrow p ≡ true → ceiling e p ≤ 16 * signsOf p * (suc e * suc e)
+unfolding ceiling weighed
+ceiling-normal e (literal b a) h = omega arith
+ceiling-normal e (both p q) h = let n = narrow-both p q h in omega (arith, ceiling-normal e p (n .2), ceiling-normal e q (n .3), mul-le-mul-right (suc e * suc e) (n .0))
+ceiling-normal e (either p q) h = let n = narrow-either p q h in omega (arith, ceiling-normal e p (n .2), ceiling-normal e q (n .3))
+ceiling-normal e (possible p) h = ceiling-normal e p (narrow-possible p h .1)
+ceiling-normal e (impossible p) h = ceiling-normal e p (narrow-impossible p h .1)
+
+-- So its rounds too.
 pub rounds-normal : (K : Computation) (p : Normal) → narrow p ≡ true → rounds K p ≤ 16 * signsOf p * square K
-unfolding rounds weighed
-rounds-normal K (literal b a) h = omega arith
-rounds-normal K (both p q) h = let n = narrow-both p q h in
-    omega (arith, rounds-normal K p (n .2), rounds-normal K q (n .3), sixteen K (basis K p) (basis K q) (width p) (width q) (basis-width K p) (basis-width K q) (n .0))
-rounds-normal K (either p q) h = let n = narrow-either p q h in omega (arith, rounds-normal K p (n .2), rounds-normal K q (n .3))
-rounds-normal K (possible p) h = rounds-normal K p (narrow-possible p h .1)
-rounds-normal K (impossible p) h = rounds-normal K p (narrow-impossible p h .1)
+rounds-normal K p h = le-trans (rounds-ceiling K p) (ceiling-normal (eventCount K) p h)
 
 -- They fit four bytes, where the events fit one.
 pub normal-fit : (K : Computation) (p : Normal) → narrow p ≡ true → signsOf p ≤ 31 → eventCount K < 256 → rounds K p < 2 ^ 32
@@ -89,8 +102,11 @@ normal-fit K p h s e =
     omega (arith, rounds-normal K p h, b)
 
 -- Of a narrow question, by its and- and or-signs.
+pub ceiling-bound : (e : ℕ) (f : Formula) → narrow (asTrue f) ≡ true → ceiling e (asTrue f) ≤ 16 * signs f * (suc e * suc e)
+ceiling-bound e f h = rw (weight-true 0 1 f) at (ceiling-normal e (asTrue f) h)
+
 pub rounds-bound : (K : Computation) (f : Formula) → narrow (asTrue f) ≡ true → rounds K (asTrue f) ≤ 16 * signs f * square K
-rounds-bound K f h = rw (weight-true 0 1 f) at (rounds-normal K (asTrue f) h)
+rounds-bound K f h = le-trans (rounds-ceiling K (asTrue f)) (ceiling-bound (eventCount K) f h)
 
 -- They fit four bytes too.
 pub rounds-fit : (K : Computation) (f : Formula) → narrow (asTrue f) ≡ true → signs f ≤ 31 → eventCount K < 256 → rounds K (asTrue f) < 2 ^ 32

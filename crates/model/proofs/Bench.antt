@@ -7,7 +7,7 @@ use Prim.Native.String.{String}
 use mathlib.Core.List.{List, [], _∷_, _++_}
 use mathlib.Core.Bool.{true, false}
 use lib.ListN.{drop, replicate}
-use Rattle.model.specs.Limits.{limits, workspaceSize, barspaceSize}
+use Rattle.model.specs.Limits.{limits, workspaceSize, barspaceSize, lineSize}
 use Rattle.model.specs.Lists.{sum, between, every}
 use Rattle.model.specs.Bytes.{push, linesOf, digit, byte, bytes, carried, items, hexDigit, hex, checkByte, line}
 use Rattle.model.specs.Looks.{own, wellFormed}
@@ -19,7 +19,8 @@ use Rattle.model.specs.Formula.Formula.{atom, not, and, or, possibly, al
 use Rattle.model.specs.Cut.{Cut, inside, insideAny, join}
 use Rattle.model.specs.Computation.{Computation, clock, value, known, isConsistent, counted, clockOk}
 use Rattle.model.specs.Rules.{asTrue, asFalse}
-use Rattle.model.specs.Size.{width, bars, slim, narrow, fits}
+use Rattle.model.specs.Size.{width, bars, held, slim, narrow, fits}
+use Rattle.model.specs.Forecast.{mostBars, ceiling, forecast}
 use Rattle.model.specs.Structure.{row, joined, raiseBy, raise, reaches, inSet, belongs, belongsAny, joinRow, joinRows, greatest, keep, buildOn, build}
 use Rattle.model.specs.Basis.{thenRight, round, onward, after, run, start, intersect, each, pairs, below, lowered, barred, basis}
 use Rattle.model.specs.Rounds.{roundsOfPair, roundsOfPairs, rounds}
@@ -27,7 +28,7 @@ use Rattle.model.specs.Answer.{notInside, add, tops, precedes, insert, s
 use Rattle.model.specs.Reading.{begun, check, headerForm, opened, admitHeader, eventForm, extended, unasked, admitEvent, asked, admitQuestion, admit, finish, proceed, readItems, readLog}
 use Rattle.model.specs.Reply.{Reply, gives, refuses}
 use Rattle.model.specs.Promise.{Asked}
-use Rattle.model.specs.Operations.{readEffect, readOp, posing, openingOf, opening, cramped, holdsReplyTo, holdsOp, answerLines, printedOf, printed}
+use Rattle.model.specs.Operations.{readEffect, readOp, posing, openingOf, opening, cramped, forecastReplyTo, forecastOp, lineEffect, answerEffect, answerOp, holdsReplyTo, holdsOp, answerLines, printedOf, printed}
 
 -- The bytes of a text.
 pub ascii : String → List ℕ
@@ -72,7 +73,7 @@ three-ways = or (range 0 5 5) two-ways
 
 -- All that is computed with: to unfold this is to unfold what its line names.
 definitions : Unit {0}
-unfolding ascii range bench Q asking holdsAt two-ways three-ways sum between every push linesOf digit byte bytes carried items own wellFormed hexDigit hex checkByte line word words listOf atomBytes operands atomOf soundAtom within next upTo raiseTo passes raiseAtom prefix ahead one two sign token spelt formulasIn single formulaOf sound weigh inside insideAny join clock value known isConsistent counted clockOk asTrue asFalse width bars slim narrow fits row joined raiseBy raise reaches inSet belongs belongsAny joinRow joinRows greatest keep buildOn build thenRight round onward after run start intersect each pairs below lowered barred basis roundsOfPair roundsOfPairs rounds notInside add tops precedes insert sort trueAt answer inRow fourBytes answerLine refusalLine begun check headerForm opened admitHeader eventForm extended unasked admitEvent asked admitQuestion admit finish proceed readItems readLog readEffect readOp posing openingOf opening cramped holdsReplyTo holdsOp answerLines printedOf printed
+unfolding ascii range bench Q asking holdsAt two-ways three-ways sum between every push linesOf digit byte bytes carried items own wellFormed hexDigit hex checkByte line word words listOf atomBytes operands atomOf soundAtom within next upTo raiseTo passes raiseAtom prefix ahead one two sign token spelt formulasIn single formulaOf sound weigh inside insideAny join clock value known isConsistent counted clockOk asTrue asFalse width bars held slim narrow fits row joined raiseBy raise reaches inSet belongs belongsAny joinRow joinRows greatest keep buildOn build thenRight round onward after run start intersect each pairs below lowered barred basis roundsOfPair roundsOfPairs rounds notInside add tops precedes insert sort trueAt answer inRow fourBytes answerLine refusalLine begun check headerForm opened admitHeader eventForm extended unasked admitEvent asked admitQuestion admit finish proceed readItems readLog readEffect readOp posing openingOf opening cramped forecastReplyTo forecastOp lineEffect answerEffect answerOp holdsReplyTo holdsOp answerLines printedOf printed mostBars ceiling forecast
 definitions = tt
 
 -- The twelve cases marked *.
@@ -128,6 +129,23 @@ pub own-bytes :
     × (wellFormed (items (linesOf (ascii "100200000000EF\n"))) ≡ true)
 unfolding definitions
 own-bytes = (refl, refl, refl, refl, refl, refl, refl, refl, refl)
+
+-- Width, largest bar count, structures held, cells and ceiling of the rounds: an "and", bars below a sign that has none, signs joined the other way under a negation, the result's width, the left's width.
+-- One cell less than forecast is refused with 11, and a question that is not there with 10.
+pub forecasts :
+    (forecastOp limits (asking Q) 0 ≡ gives (1 ∷ 0 ∷ 3 ∷ 24 ∷ 16 ∷ []))
+    × (forecastOp limits (asking (possibly (always (not Q)))) 0 ≡ gives (1 ∷ 1 ∷ 3 ∷ 24 ∷ 16 ∷ []))
+    × (forecastOp limits (asking (not Q)) 0 ≡ gives (2 ∷ 0 ∷ 4 ∷ 32 ∷ 0 ∷ []))
+    × (forecastOp limits (asking (not two-ways)) 0 ≡ gives (1 ∷ 0 ∷ 3 ∷ 24 ∷ 16 ∷ []))
+    × (forecastOp limits (asking (and (and two-ways two-ways) (and two-ways two-ways))) 0 ≡ gives (16 ∷ 0 ∷ 24 ∷ 192 ∷ 384 ∷ []))
+    × (forecastOp limits (asking (or two-ways (always (not (and two-ways two-ways))))) 0 ≡ gives (3 ∷ 4 ∷ 10 ∷ 80 ∷ 64 ∷ []))
+    × (forecastOp limits (asking Q) 1 ≡ refuses 10 0)
+    × (answerOp limits (asking Q) 0 24 barspaceSize (replicate lineSize 0) .reply ≡ gives (21 ∷ []))
+    × (answerOp limits (asking Q) 0 23 barspaceSize (replicate lineSize 0) .reply ≡ refuses 11 0)
+    × (holdsOp limits (asking Q) 0 (1 ∷ 1 ∷ []) 24 barspaceSize ≡ gives (1 ∷ []))
+    × (holdsOp limits (asking Q) 0 (1 ∷ 1 ∷ []) 23 barspaceSize ≡ refuses 11 0)
+unfolding definitions
+forecasts = (refl, refl, refl, refl, refl, refl, refl, refl, refl, refl, refl)
 
 -- What is promised of accepted logs and their questions is promised of this one.
 pub bench-asked : Asked limits (asking Q) 0 benched Q

@@ -10,6 +10,7 @@ pub mod Formula
 pub mod Truth
 pub mod Rules
 pub mod Size
+pub mod Forecast
 pub mod Structure
 pub mod Basis
 pub mod Rounds

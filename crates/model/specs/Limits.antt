@@ -10,10 +10,7 @@ limits = record { stations = 8; events = 127; questions = 16; bytes = 8192; list
 abbrev pub printLimits : Limits
 printLimits = limits
 
--- LENT BY THE CALLER: cells of the workspace, cells of the bar space, bytes of the output for an answer line
-abbrev pub workspaceSize : ℕ
-workspaceSize = 65536
-
+-- LENT BY THE CALLER: cells of the bar space, bytes of the output for an answer line
 abbrev pub barspaceSize : ℕ
 barspaceSize = 8192
 
@@ -21,6 +18,10 @@ abbrev pub lineSize : ℕ
 lineSize = 273
 
 -- LENT BY THE OPERATIONS TO WHAT THEY CALL
+
+-- A workspace in which any question of a log can be worked out, whatever it takes.
+abbrev pub workspaceSize : ℕ
+workspaceSize = 65536
 
 -- The bytes of an event's slot: its value in two, its clock in one for each station.
 abbrev pub slotSize : ℕ

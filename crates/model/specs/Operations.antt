@@ -1,4 +1,4 @@
--- The four operations and the program: what each hands back and leaves in what is lent to it.
+-- The five operations and the program: what each hands back and leaves in what is lent to it.
 use mathlib.Core.Path.{_≡_}
 use Prim.Native.Nat.{ℕ, suc}
 use mathlib.Core.Bool.{Bool, cond, _||_}
@@ -7,14 +7,15 @@ use mathlib.Core.Option.{Option, none, some}
 use lib.ListN.{length, drop, getElem?}
 use lib.Dec.{ltb}
 use Rattle.model.specs.declared.Limits.{Limits}
-use Rattle.model.specs.Limits.{printLimits, workspaceSize, barspaceSize, lineSize}
+use Rattle.model.specs.Limits.{printLimits, barspaceSize, lineSize}
 use Rattle.model.specs.Frames.{logOf, listOf}
 use Rattle.model.specs.Formula.{Formula}
 use Rattle.model.specs.Cut.{Cut}
 use Rattle.model.specs.Computation.{Computation, stations, eventCount, isConsistent}
+use Rattle.model.specs.Forecast.{forecast}
 use Rattle.model.specs.Answer.{trueAt, answer, yesNo, answerLine, refusalLine}
 use Rattle.model.specs.Reading.{Result, refused, accepted, readLog, readList}
-use Rattle.model.specs.Reply.{Reply, gives, refuses}
+use Rattle.model.specs.Reply.{Reply, gives, refuses, figures}
 
 -- What is handed back, and the output afterwards.
 pub record Effect : Type 0 where
@@ -67,9 +68,19 @@ openingOf (accepted r) q = posing (r .computation) (getElem? (r .questions) q)
 unfoldable pub opening : Limits → List ℕ → ℕ → Opening
 opening m log q = openingOf (readLog m log) q
 
--- The workspace or the bar space is too small.
-unfoldable pub cramped : ℕ → ℕ → Bool
-cramped ws bs = ltb ws workspaceSize || ltb bs barspaceSize
+-- The workspace has fewer cells than are forecast, or the bar space is too small.
+unfoldable pub cramped : Computation → Formula → ℕ → ℕ → Bool
+cramped K f ws bs = ltb ws (forecast K f .cells) || ltb bs barspaceSize
+
+-- FORECAST
+
+unfoldable pub forecastReplyTo : Opening → Reply
+forecastReplyTo (shut k n) = refuses k n
+forecastReplyTo (poses K f) = gives (figures (forecast K f))
+
+-- limits, log, question number
+unfoldable pub forecastOp : Limits → List ℕ → ℕ → Reply
+forecastOp m log q = forecastReplyTo (opening m log q)
 
 -- ANSWER
 
@@ -78,7 +89,7 @@ lineEffect l out = cond (ltb (length out) lineSize) (refuse 12 0 out) (write (le
 
 unfoldable pub answerEffect : Opening → ℕ → ℕ → List ℕ → Effect
 answerEffect (shut k n) ws bs out = refuse k n out
-answerEffect (poses K f) ws bs out = cond (cramped ws bs) (refuse 11 0 out) (lineEffect (answerLine (answer K f)) out)
+answerEffect (poses K f) ws bs out = cond (cramped K f ws bs) (refuse 11 0 out) (lineEffect (answerLine (answer K f)) out)
 
 -- limits, log, question number, sizes of workspace and bar space, output
 unfoldable pub answerOp : Limits → List ℕ → ℕ → ℕ → ℕ → List ℕ → Effect
@@ -88,7 +99,7 @@ answerOp m log q ws bs out = answerEffect (opening m log q) ws bs out
 
 unfoldable pub holdsReplyTo : Opening → Cut → ℕ → ℕ → Reply
 holdsReplyTo (shut k n) c ws bs = refuses k n
-holdsReplyTo (poses K f) c ws bs = cond (isConsistent K c) (cond (cramped ws bs) (refuses 11 0) (gives (yesNo (trueAt K f c) ∷ []))) (refuses 13 0)
+holdsReplyTo (poses K f) c ws bs = cond (isConsistent K c) (cond (cramped K f ws bs) (refuses 11 0) (gives (yesNo (trueAt K f c) ∷ []))) (refuses 13 0)
 
 -- limits, log, question number, cut, sizes of workspace and bar space
 unfoldable pub holdsOp : Limits → List ℕ → ℕ → Cut → ℕ → ℕ → Reply

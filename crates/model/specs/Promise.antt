@@ -1,24 +1,25 @@
--- What is promised of the operations and of the program: demands 2 and 3, by truth at cuts.
+-- What is promised of the operations and of the program: demands 2 and 3, by truth at cuts, and what a forecast is good for.
 use mathlib.Core.Path.{_≡_}
-use mathlib.Core.Logic.{_↔_}
+use mathlib.Core.Logic.{_↔_, _⊎_}
 use Prim.Native.Nat.{ℕ, suc, _*_, _^_, _≤_, _<_}
 use mathlib.Core.Bool.{Bool, true}
 use mathlib.Core.List.{List, [], _∷_}
 use mathlib.Core.Option.{some}
 use lib.ListN.{length, take, getElem?}
 use Rattle.model.specs.declared.Limits.{Limits}
-use Rattle.model.specs.Limits.{limits, workspaceSize, barspaceSize, lineSize}
+use Rattle.model.specs.Limits.{limits, barspaceSize, lineSize}
 use Rattle.model.specs.Lists.{Some, Member}
 use Rattle.model.specs.Formula.{Formula, signs}
 use Rattle.model.specs.Cut.{Cut, _!_, _⊑_, empty}
 use Rattle.model.specs.Computation.{Computation, Consistent, stations, eventCount}
 use Rattle.model.specs.Truth.{True}
 use Rattle.model.specs.Rules.{asTrue}
+use Rattle.model.specs.Forecast.{forecast}
 use Rattle.model.specs.Rounds as rule
 use Rattle.model.specs.Answer.{precedes, inRow, answerLine}
 use Rattle.model.specs.Reading.{Reading, accepted, readLog}
-use Rattle.model.specs.Reply.{Reply, gives}
-use Rattle.model.specs.Operations.{write, readOp, answerOp, writeOp, printed}
+use Rattle.model.specs.Reply.{Reply, gives, refuses, figures}
+use Rattle.model.specs.Operations.{write, readOp, answerOp, holdsOp, writeOp, printed}
 
 -- The log is accepted under the limits m, K is its computation, and f its question number q.
 pub record Asked (m : Limits) (log : List ℕ) (q : ℕ) (K : Computation) (f : Formula) : Type 0 where
@@ -66,11 +67,29 @@ pub record Answered (K : Computation) (f : Formula) (line : List ℕ) : Type 0 w
   pub by-rule : rule.AllByRule K (asTrue f)
   -- and they have their bound
   pub bounded : rounds ≤ 16 * signs f * (suc (eventCount K) * suc (eventCount K))
+  -- as forecast: the rounds are never above the ceiling, and no more cuts are listed than the width
+  pub under-ceiling : rounds ≤ forecast K f .ceiling
+  pub within-width : length cuts ≤ forecast K f .width
 
 -- DEMAND 2, of the reply to a consistent cut
 pub record Tested (K : Computation) (f : Formula) (c : Cut) (reply : Reply) : Type 0 where
   pub when-true : (reply ≡ gives (1 ∷ [])) ↔ True K f c
   pub when-false : (reply ≡ gives (0 ∷ [])) ↔ (True K f c → ⊥)
+
+-- FORECAST, of the reply for the question f
+pub record Foretold (m : Limits) (log : List ℕ) (q : ℕ) (K : Computation) (f : Formula) (reply : Reply) : Type 0 where
+  -- the reply has the figures of the forecast
+  pub told : reply ≡ gives (figures (forecast K f))
+  -- lent a workspace of just its cells, or of more, Answer writes a line of which demand 3 holds, and so with rounds and cuts as forecast
+  pub answers : (workspace barspace : ℕ) (output : List ℕ) → forecast K f .cells ≤ workspace → barspaceSize ≤ barspace → lineSize ≤ length output
+      → (line : List ℕ) × Answered K f line × (answerOp m log q workspace barspace output ≡ write (length line ∷ []) line output)
+  -- and demand 2 holds of the reply of Holds
+  pub tests : (workspace barspace : ℕ) (c : Cut) → forecast K f .cells ≤ workspace → barspaceSize ≤ barspace → Consistent K c → Tested K f c (holdsOp m log q c workspace barspace)
+  -- 11 means fewer cells than that, or too little bar space: of Answer, and of Holds at a consistent cut
+  pub turned : (workspace barspace : ℕ) (output : List ℕ)
+      → (answerOp m log q workspace barspace output .reply ≡ refuses 11 0) ↔ ((workspace < forecast K f .cells) ⊎ (barspace < barspaceSize))
+  pub turned-cut : (workspace barspace : ℕ) (c : Cut) → Consistent K c
+      → (holdsOp m log q c workspace barspace ≡ refuses 11 0) ↔ ((workspace < forecast K f .cells) ⊎ (barspace < barspaceSize))
 
 -- DEMAND 2, of what Read hands back (counts of stations, events and questions, the list's length) and its output: writing the frame list gives the log again
 abbrev pub Rewritten : Limits → List ℕ → Reply → List ℕ → Type 0
@@ -99,6 +118,6 @@ pub record Prints (log : List ℕ) (r : Reading) : Type 0 where
   -- demand 3 holds of each
   pub answers : (q : ℕ) (f : Formula) (line : List ℕ) → getElem? (r .questions) q ≡ some f → getElem? lines q ≡ some line → Answered (r .computation) f line
   -- each is the line that Answer writes, lent the sizes that it asks for
-  pub unchanged : (q : ℕ) (line : List ℕ) → getElem? lines q ≡ some line
-      → (workspace barspace : ℕ) (output : List ℕ) → workspaceSize ≤ workspace → barspaceSize ≤ barspace → lineSize ≤ length output
+  pub unchanged : (q : ℕ) (f : Formula) (line : List ℕ) → getElem? (r .questions) q ≡ some f → getElem? lines q ≡ some line
+      → (workspace barspace : ℕ) (output : List ℕ) → forecast (r .computation) f .cells ≤ workspace → barspaceSize ≤ barspace → lineSize ≤ length output
       → answerOp limits log q workspace barspace output ≡ write (length line ∷ []) line output

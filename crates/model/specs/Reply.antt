@@ -6,10 +6,13 @@ use Rattle.model.specs.declared.Fault.the-variants.{LongLog, LineForm, C
 use Rattle.model.specs.declared.Refusal.{Refusal}
 use Rattle.model.specs.declared.ReadAnswer.{ReadAnswer}
 use Rattle.model.specs.declared.WriteAnswer.{WriteAnswer}
+use Rattle.model.specs.declared.Forecast.{Forecast}
+use Rattle.model.specs.declared.ForecastAnswer.{ForecastAnswer}
 use Rattle.model.specs.declared.LineAnswer.{LineAnswer}
 use Rattle.model.specs.declared.HoldsAnswer.{HoldsAnswer}
 use Rattle.model.specs.declared.ReadAnswer.the-variants as read
 use Rattle.model.specs.declared.WriteAnswer.the-variants as write
+use Rattle.model.specs.declared.ForecastAnswer.the-variants as forecast
 use Rattle.model.specs.declared.LineAnswer.the-variants as answer
 use Rattle.model.specs.declared.HoldsAnswer.the-variants as holds
 
@@ -46,6 +49,14 @@ readReply (read.Refused r) = refusal r
 abbrev pub writeReply : WriteAnswer → Reply
 writeReply (write.Written n) = gives (n ∷ [])
 writeReply (write.Refused r) = refusal r
+
+-- Forecast: width, largest bar count, structures held, their cells, ceiling for the rounds.
+abbrev pub figures : Forecast → List ℕ
+figures c = c .width ∷ c .bars ∷ c .held ∷ c .cells ∷ c .ceiling ∷ []
+
+abbrev pub forecastReply : ForecastAnswer → Reply
+forecastReply (forecast.Given c) = gives (figures c)
+forecastReply (forecast.Refused r) = refusal r
 
 -- Answer: the line's length.
 abbrev pub lineReply : LineAnswer → Reply

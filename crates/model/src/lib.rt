@@ -32,10 +32,11 @@ impl Log {
 
     pub const LIST: usize = 4096;
 
-    // The cells of the workspace and of the bar space, and the bytes of the longest answer line.
-    pub const WORKSPACE: usize = 65536;
-
+    // The cells of the bar space, of a workspace in which any question of a log can be worked out, and the bytes of the longest
+    // answer line.
     pub const BARSPACE: usize = 8192;
+
+    pub const WORKSPACE: usize = 65536;
 
     pub const LINE: usize = 273;
 
@@ -131,6 +132,16 @@ pub struct Refusal {
     pub line: usize,
 }
 
+// What a question can cost: its width, the largest bar count at any token, the structures held, the cells of the workspace that these
+// take, and a ceiling for the rounds.
+pub struct Forecast {
+    pub width: usize,
+    pub bars: usize,
+    pub held: usize,
+    pub cells: usize,
+    pub ceiling: usize,
+}
+
 // What Read hands back.
 pub enum ReadAnswer {
     Accepted(Log),
@@ -140,6 +151,12 @@ pub enum ReadAnswer {
 // What Write hands back: the log's length.
 pub enum WriteAnswer {
     Written(usize),
+    Refused(Refusal),
+}
+
+// What Forecast hands back.
+pub enum ForecastAnswer {
+    Given(Forecast),
     Refused(Refusal),
 }
 

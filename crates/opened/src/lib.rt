@@ -9,7 +9,8 @@ ghost use mathlib.Core.Path.{_≡_};
 ghost use mathlib.Core.List.{List};
 ghost use Prim.Native.Nat.{ℕ, _≤_};
 ghost use lib.ListN.{length};
-ghost use Rattle.model.specs.Limits.{limits, printLimits, storeSize, workspaceSize, barspaceSize, lineSize, printedSize};
+ghost use Rattle.model.specs.Limits.{limits, printLimits, storeSize, barspaceSize, lineSize, printedSize};
+ghost use Rattle.model.specs.Forecast.{forecast};
 ghost use Rattle.model.specs.Answer.{answer, answerLine, trueAt};
 ghost use Rattle.model.specs.Operations.{answerLines};
 ghost use Rattle.line.specs.AtFront.{AtFront};
@@ -27,8 +28,8 @@ pub fn answer_one(
     bs: &mut [u8],
     out: &mut [u8],
 ) -> usize
-    requires { ⌜ (loaded .length ≤ length (now list)) × (length (now store) ≡ storeSize) × (workspaceSize ≤ length (now ws)) × (barspaceSize ≤ length (now bs)) × (lineSize ≤ length (now out)) ⌝ }
-    requires { ⌜ ((log : List ℕ) × Poses limits log question loaded (now list) (now store)) ⌝ }
+    requires { ⌜ (loaded .length ≤ length (now list)) × (length (now store) ≡ storeSize) × (barspaceSize ≤ length (now bs)) × (lineSize ≤ length (now out)) ⌝ }
+    requires { ⌜ ((log : List ℕ) × (p : Poses limits log question loaded (now list) (now store)) × (forecast (p .accepts .reading .computation) (p .question) .cells ≤ length (now ws))) ⌝ }
     ensures { λ r. ⌜ ((log : List ℕ) (p : Poses limits log question loaded (now (list .entry)) (now (store .entry))) → AtFront (answerLine (answer (p .accepts .reading .computation) (p .question))) r (now (out .entry)) (now (out .exit))) ⌝ }
 {
     let mut starts = [0u8; Log::STARTS];
@@ -48,8 +49,8 @@ pub fn test_cut(
     ws: &mut [u8],
     bs: &mut [u8],
 ) -> bool
-    requires { ⌜ (loaded .length ≤ length (now list)) × (length (now store) ≡ storeSize) × (length (now cut) ≡ loaded .state .stations) × (workspaceSize ≤ length (now ws)) × (barspaceSize ≤ length (now bs)) ⌝ }
-    requires { ⌜ ((log : List ℕ) × Poses limits log question loaded (now list) (now store)) ⌝ }
+    requires { ⌜ (loaded .length ≤ length (now list)) × (length (now store) ≡ storeSize) × (length (now cut) ≡ loaded .state .stations) × (barspaceSize ≤ length (now bs)) ⌝ }
+    requires { ⌜ ((log : List ℕ) × (p : Poses limits log question loaded (now list) (now store)) × (forecast (p .accepts .reading .computation) (p .question) .cells ≤ length (now ws))) ⌝ }
     ensures { λ r. ⌜ ((log : List ℕ) (p : Poses limits log question loaded (now (list .entry)) (now (store .entry))) → r ≡ trueAt (p .accepts .reading .computation) (p .question) (now (cut .entry))) ⌝ }
 {
     let mut starts = [0u8; Log::STARTS];

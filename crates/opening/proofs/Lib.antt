@@ -1,3 +1,4 @@
 pub mod Logs
+mod Foreseen
 pub mod Openings
 pub mod Room

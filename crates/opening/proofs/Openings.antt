@@ -1,10 +1,11 @@
 -- What opening a log for a question comes to, by what loading it came to.
-use mathlib.Core.Path.{_≡_}
+use mathlib.Core.Path.{_≡_, refl}
 use mathlib.Core.List.{List}
 use Prim.Native.Nat.{ℕ, _≤_, _<_}
 use native.Mathlib.Omega.{arith}
 use lib.ListN.{length}
 use Rattle.model.specs.declared.Limits.{Limits}
+use Rattle.model.specs.Limits.{limits}
 use Rattle.model.specs.declared.Refusal.{Refusal}
 use Rattle.model.specs.Reply.{number}
 use Rattle.model.specs.Operations.{shut, poses, posing, openingOf, opening}
@@ -12,9 +13,13 @@ use Rattle.load.specs.declared.Acceptance.{Acceptance}
 use Rattle.load.specs.declared.Acceptance.the-variants.{Accepted, Refused}
 use Rattle.load.specs.declared.Loaded.{Loaded}
 use Rattle.load.specs.Loading.{Accepts, Loads}
-use Rattle.load.proofs.Loads.{to-accepts, to-refused}
-use Rattle.opening.specs.Opening.{Poses, Opens}
+use Rattle.load.proofs.Loads.{no-larger, to-accepts, to-refused}
+use Rattle.opening.specs.Opening.{Holding, Poses, Opens}
 use Rattle.opening.proofs.Logs.{question-count, question-there, no-question}
+
+-- List and store hold a log that was loaded under the operations' limits.
+pub holding : {log : List ℕ} {l : Loaded} {list t : List ℕ} → Accepts limits log (l .state) (l .length) list t → Holding l list t
+holding {log} a = record { limits-are = limits; small = no-larger limits refl; log = log; accepts = a }
 
 module _ (m : Limits) (log : List ℕ) (q : ℕ) (l : Loaded) (list t : List ℕ) where
   -- A log that has the question poses it.

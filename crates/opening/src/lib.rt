@@ -1,8 +1,10 @@
-// What every operation that asks about a question begins with: a log is loaded, and has the question.
+// What every operation that asks about a question begins with: a log is loaded, has the question, and there is room for what it can cost.
 use frames::question_at;
 use load::Acceptance;
 use load::Loaded;
+use model::Forecast;
 use model::Log;
+use query::figures;
 use structure::Shape;
 ghost use mathlib.Core.Path.{_≡_};
 ghost use mathlib.Core.List.{List};
@@ -12,6 +14,7 @@ ghost use lib.ListN.{length, getElem?};
 ghost use Rattle.model.specs.declared.Limits.{Limits};
 ghost use Rattle.model.specs.Limits.{limits, storeSize, startsSize, factsSize};
 ghost use Rattle.model.specs.Formula.{Formula, prefix};
+ghost use Rattle.model.specs.Forecast.{forecast};
 ghost use Rattle.model.specs.Operations.{cramped};
 ghost use Rattle.codec.specs.Limits.{NoLarger};
 ghost use Rattle.structure.specs.Laid.{Given};
@@ -76,11 +79,37 @@ pub fn lay(store: &[u8], loaded: Loaded, starts: &mut [u8], facts: &mut [u16]) -
     layout::lay(store, n, e, counts, starts, facts)
 }
 
-// Is the workspace or the bar space too small, by their sizes?
-pub fn cramped(ws: usize, bs: usize) -> bool
-    ensures { λ r. ⌜ r ≡ cramped ws bs ⌝ }
+// What a question of a loaded log can cost.
+pub fn foresee(list: &[u8], loaded: Loaded, question: usize) -> Forecast
+    requires { ⌜ (question < loaded .state .questions) × (loaded .length ≤ length (now list)) ⌝ }
+    requires { ⌜ ((t : List ℕ) × Holding loaded (now list) t) ⌝ }
+    ensures { λ r. ⌜ ((m : Limits) (log t : List ℕ) (a : Accepts m log (loaded .state) (loaded .length) (now (list .entry)) t) (f : Formula) → getElem? (a .reading .questions) question ≡ some f → r ≡ forecast (a .reading .computation) f) ⌝ }
 {
-    if ws < Log::WORKSPACE {
+    let s = loaded.state;
+    let n = s.stations;
+    let e = s.events;
+    let q = asked(list, loaded, question);
+    let g = figures(q, n);
+    let held = g.held as usize;
+    let pairs = g.pairs as usize;
+    Forecast {
+        width: g.width as usize,
+        bars: g.most as usize,
+        held: held,
+        cells: held * n * (e + 1),
+        ceiling: pairs * ((e + 1) * (e + 1)),
+    }
+}
+
+// Has the workspace fewer cells than are forecast of the question, or is the bar space too small?
+pub fn cramped(list: &[u8], loaded: Loaded, question: usize, ws: usize, bs: usize) -> bool
+    requires { ⌜ (question < loaded .state .questions) × (loaded .length ≤ length (now list)) ⌝ }
+    requires { ⌜ ((t : List ℕ) × Holding loaded (now list) t) ⌝ }
+    ensures { λ r. ⌜ ((m : Limits) (log t : List ℕ) (a : Accepts m log (loaded .state) (loaded .length) (now (list .entry)) t) (f : Formula) → getElem? (a .reading .questions) question ≡ some f → r ≡ cramped (a .reading .computation) f ws bs) ⌝ }
+{
+    let f = foresee(list, loaded, question);
+    let cells = f.cells;
+    if ws < cells {
         return true;
     }
     bs < Log::BARSPACE

@@ -14,18 +14,20 @@ use Rattle.model.specs.Cut.{Cut}
 use Rattle.model.specs.Computation.{isConsistent}
 use Rattle.model.specs.Answer.{trueAt, yesNo}
 use Rattle.model.specs.Reading.{Result, refused, accepted, readLog, readList}
+use Rattle.model.specs.declared.Forecast.{Forecast}
 use Rattle.model.specs.declared.Fault.{Fault}
 use Rattle.model.specs.declared.Fault.the-variants.{LongLog, LineForm, CheckByte, Kind, Header, Event, Clock, Formula, Size, NoQuestion, Workspace, Output, Cut as CutFault, FrameList}
-use Rattle.model.specs.Reply.{Reply, gives, refuses, number}
-use Rattle.model.specs.Operations.{Effect, readEffect, readOp, Opening, shut, poses, opening, cramped, lineEffect, answerEffect, answerOp, holdsReplyTo, holdsOp, writeEffect, writeOp}
+use Rattle.model.specs.Reply.{Reply, gives, refuses, number, figures}
+use Rattle.model.specs.Operations.{Effect, readEffect, readOp, Opening, shut, poses, opening, cramped, forecastReplyTo, forecastOp, lineEffect, answerEffect, answerOp, holdsReplyTo, holdsOp, writeEffect, writeOp}
 use Rattle.codec.proofs.Accepted.{accepted-log, accepted-list}
 use Rattle.codec.proofs.Suited.{suitable}
 use Rattle.codec.proofs.Sizes.{short, short-list, short-log}
 use Rattle.codec.proofs.Refusals.{log-named, list-named, opening-named}
 use Rattle.codec.proofs.Demands.{opened-line-fits}
-use Rattle.packing.specs.Packed.{pack, packed, readWidths, writeWidths, answerWidths, holdsWidths, Fits, Fair}
+use Rattle.codec.proofs.Forecast.{opened-low}
+use Rattle.packing.specs.Packed.{pack, packed, readWidths, writeWidths, forecastWidths, answerWidths, holdsWidths, Fits, Fair}
 
--- THE FOUR OPERATIONS
+-- THE OPERATIONS
 
 either : (widths : List ℕ) (b : Bool) (x y : Effect) → Fair widths (x .reply) → Fair widths (y .reply) → Fair widths (cond b x y .reply)
 either widths true x y p q = p
@@ -54,6 +56,16 @@ write-fair list out = by (readList limits list) refl
         let l = short-log suitable r _ (accepted-list limits list r e .1) in
         either writeWidths (ltb (length out) (limits .bytes)) _ _ (omega arith, omega arith) (omega arith, tt)
 
+pub forecast-fair : (log : List ℕ) (q : ℕ) → Fair forecastWidths (forecastOp limits log q)
+unfolding forecastOp forecastReplyTo
+forecast-fair log q = by (opening limits log q) refl
+  where
+    by : (o : Opening) → opening limits log q ≡ o → Fair forecastWidths (forecastReplyTo o)
+    by (shut k n) e = opening-named limits log q k n e
+    by (poses K f) e =
+        let l = opened-low suitable log q K f e in
+        (omega (arith, l .width), (omega (arith, l .bars), (omega (arith, l .held), (omega (arith, l .cells), (omega (arith, l .ceiling), tt)))))
+
 pub answer-fair : (log : List ℕ) (q ws bs : ℕ) (out : List ℕ) → Fair answerWidths (answerOp limits log q ws bs out .reply)
 unfolding answerOp answerEffect lineEffect
 answer-fair log q ws bs out = by (opening limits log q) refl
@@ -62,7 +74,7 @@ answer-fair log q ws bs out = by (opening limits log q) refl
     by (shut k n) e = opening-named limits log q k n e
     by (poses K f) e =
         let l = opened-line-fits suitable log q K f e in
-        either answerWidths (cramped ws bs) _ _ (omega arith, omega arith)
+        either answerWidths (cramped K f ws bs) _ _ (omega arith, omega arith)
         (either answerWidths (ltb (length out) lineSize) _ _ (omega arith, omega arith) (omega arith, tt))
 
 pub holds-fair : (log : List ℕ) (q : ℕ) (c : Cut) (ws bs : ℕ) → Fair holdsWidths (holdsOp limits log q c ws bs)
@@ -77,7 +89,7 @@ holds-fair log q c ws bs = by (opening limits log q) refl
 
     by : (o : Opening) → opening limits log q ≡ o → Fair holdsWidths (holdsReplyTo o c ws bs)
     by (shut k n) e = opening-named limits log q k n e
-    by (poses K f) e = told (isConsistent K c) (cramped ws bs) (trueAt K f c)
+    by (poses K f) e = told (isConsistent K c) (cramped K f ws bs) (trueAt K f c)
 
 -- WHAT THE CODE PACKS
 
@@ -86,6 +98,9 @@ line-low widths k n x e f = (rw (sym e) at f) .1
 
 pub counts-low : (a b c d : ℕ) (x : Reply) → gives (a ∷ b ∷ c ∷ d ∷ []) ≡ x → Fair readWidths x → (a < 2 ^ 8) × (b < 2 ^ 8) × (c < 2 ^ 8) × (d < 2 ^ 16)
 counts-low a b c d x e f = let w = rw (sym e) at f in (w .0, w .1 .0, w .1 .1 .0, w .1 .1 .1 .0)
+
+pub figures-low : (f : Forecast) (x : Reply) → gives (figures f) ≡ x → Fair forecastWidths x → (f .width < 2 ^ 5) × (f .bars < 2 ^ 5) × (f .held < 2 ^ 6) × (f .cells < 2 ^ 17) × (f .ceiling < 2 ^ 24)
+figures-low f x e h = let w = rw (sym e) at h in (w .0, w .1 .0, w .1 .1 .0, w .1 .1 .1 .0, w .1 .1 .1 .1 .0)
 
 -- A fault's number fits five bits.
 pub few-faults : (x : Fault) → number x < 32
@@ -148,6 +163,10 @@ read-told log out log′ out′ e = same readWidths (omega arith) _ _ (read-fair
 pub write-told : (list out list′ out′ : List ℕ) → packed writeWidths (writeOp limits list out .reply) ≡ packed writeWidths (writeOp limits list′ out′ .reply) → writeOp limits list out .reply ≡ writeOp limits list′ out′ .reply
 unfolding sum
 write-told list out list′ out′ e = same writeWidths (omega arith) _ _ (write-fair list out) (write-fair list′ out′) e
+
+pub forecast-told : (log : List ℕ) (q : ℕ) (log′ : List ℕ) (q′ : ℕ) → packed forecastWidths (forecastOp limits log q) ≡ packed forecastWidths (forecastOp limits log′ q′) → forecastOp limits log q ≡ forecastOp limits log′ q′
+unfolding sum
+forecast-told log q log′ q′ e = same forecastWidths (omega arith) _ _ (forecast-fair log q) (forecast-fair log′ q′) e
 
 pub answer-told : (log : List ℕ) (q ws bs : ℕ) (out log′ : List ℕ) (q′ ws′ bs′ : ℕ) (out′ : List ℕ)
     → packed answerWidths (answerOp limits log q ws bs out .reply) ≡ packed answerWidths (answerOp limits log′ q′ ws′ bs′ out′ .reply)

@@ -1,4 +1,6 @@
 // The operations' replies, each packed in one number.
+use model::Forecast;
+use model::ForecastAnswer;
 use model::HoldsAnswer;
 use model::LineAnswer;
 use model::Log;
@@ -9,8 +11,8 @@ ghost use mathlib.Core.Path.{_≡_};
 ghost use Prim.Native.Nat.{ℕ, _+_, _^_, _≤_, _<_};
 ghost use mathlib.Core.List.{List, [], _∷_};
 ghost use Rattle.model.specs.Limits.{limits};
-ghost use Rattle.model.specs.Reply.{gives, refusal, readReply, writeReply, lineReply, holdsReply};
-ghost use Rattle.packing.specs.Packed.{packed, readWidths, writeWidths, answerWidths, holdsWidths, Fair};
+ghost use Rattle.model.specs.Reply.{gives, refusal, figures, readReply, writeReply, forecastReply, lineReply, holdsReply};
+ghost use Rattle.packing.specs.Packed.{packed, readWidths, writeWidths, forecastWidths, answerWidths, holdsWidths, Fair};
 
 // One in the highest five bits.
 const HIGHEST: u64 = 0x0800_0000_0000_0000;
@@ -51,6 +53,26 @@ pub fn packed_write(a: WriteAnswer) -> u64
     match a {
         WriteAnswer::Written(n) => n as u64,
         WriteAnswer::Refused(r) => packed_refusal(r),
+    }
+}
+
+// Forecast's five values, the first in the lowest five bits.
+fn packed_figures(f: Forecast) -> u64
+    requires { ⌜ (f .width < 2 ^ 5) × (f .bars < 2 ^ 5) × (f .held < 2 ^ 6) × (f .cells < 2 ^ 17) × (f .ceiling < 2 ^ 24) ⌝ }
+    ensures { λ v. ⌜ v ≡ packed forecastWidths (gives (figures f)) ⌝ }
+{
+    let room = f.cells as u64 + 0x0002_0000 * (f.ceiling as u64);
+    f.width as u64 + 32 * (f.bars as u64 + 32 * (f.held as u64 + 64 * room))
+}
+
+// Forecast's reply: the figures, or a refusal.
+pub fn packed_forecast(a: ForecastAnswer) -> u64
+    requires { ⌜ Fair forecastWidths (forecastReply a) ⌝ }
+    ensures { λ v. ⌜ v ≡ packed forecastWidths (forecastReply a) ⌝ }
+{
+    match a {
+        ForecastAnswer::Given(f) => packed_figures(f),
+        ForecastAnswer::Refused(r) => packed_refusal(r),
     }
 }
 

@@ -8,14 +8,17 @@ use native.Mathlib.Omega.{arith}
 use borrow.Author.Tests.{le-leb, lt-leb}
 use lib.Dec.{leb}
 use lib.ListN.{length, drop, length-drop, drop-of-length-le}
-use Rattle.model.specs.Formula.{Formula, ahead, single, formulaOf}
+use Rattle.model.specs.Formula.{Formula, prefix, ahead, single, formulaOf, sound}
 use Rattle.model.specs.Size.{narrow, fits}
 use Rattle.model.specs.Rules.{asTrue}
 use Rattle.codec.proofs.Cases.{none-some}
 use Rattle.codec.specs.Formulas.{formulas}
-use Rattle.codec.proofs.Formulas.{formulas-none, formulas-formula, formulas-empty}
+use Rattle.codec.proofs.Formulas.{formulas-none, formulas-formula, formulas-empty, formula-prefix}
+use Rattle.extents.specs.declared.Figures.{Figures}
 use Rattle.extents.specs.declared.Extent.the-variants.{Wide, Narrow}
 use Rattle.atoms.specs.declared.Size.{Size}
+use Rattle.extents.specs.Extents.{figuresOf}
+use Rattle.query.specs.declared.Verdict.the-variants.{Fine, Malformed, TooLarge}
 use Rattle.query.specs.Judged.{judged}
 use Rattle.atoms.specs.Measured.{first, Sized}
 use Rattle.extents.proofs.Extents.{narrow-of, wide-of}
@@ -28,7 +31,7 @@ single-first none h = refl
 single-first (some []) h = refl
 single-first (some (f ∷ l)) h = none-some (sym h)
 
-pub judged-nothing : (n : ℕ) (q : List ℕ) → first (formulas q) ≡ none → some 8 ≡ judged n (formulaOf q)
+pub judged-nothing : (n : ℕ) (q : List ℕ) → first (formulas q) ≡ none → Malformed ≡ judged n (formulaOf q)
 unfolding judged formulaOf
 judged-nothing n q h = rw (single-first (formulas q) h)
 
@@ -38,11 +41,11 @@ ahead-alone f g none e = none-some e
 ahead-alone f g (some l) e = cc
 
 module _ {n : ℕ} {q : List ℕ} {z : Size} (x : Sized n true q z) where
-  pub judged-more : (z .used ≡ length q → ⊥) → some 8 ≡ judged n (formulaOf q)
+  pub judged-more : (z .used ≡ length q → ⊥) → Malformed ≡ judged n (formulaOf q)
   unfolding judged
   judged-more h = go (formulaOf q) refl
     where
-      go : (o : Option Formula) → formulaOf q ≡ o → some 8 ≡ judged n o
+      go : (o : Option Formula) → formulaOf q ≡ o → Malformed ≡ judged n o
       go none e = refl
       go (some g) e =
           let r : formulas (drop (z .used) q) ≡ some [] = ahead-alone (x .formula) g _ (sym (x .reads) ∙ formulas-formula q g e) in
@@ -55,25 +58,36 @@ module _ {n : ℕ} {q : List ℕ} {z : Size} (x : Sized n true q z) where
     unfolding formulaOf single ahead
     one-formula = rw (x .reads, h, drop-of-length-le q {i = length q} (omega arith), formulas-none)
 
-    pub judged-unsound : z .sound ≡ false → some 8 ≡ judged n (formulaOf q)
+    pub judged-unsound : z .sound ≡ false → Malformed ≡ judged n (formulaOf q)
     unfolding judged
     judged-unsound s = simp (one-formula, sym (x .sound) ∙ s)
 
     module _ (s : z .sound ≡ true) where
       -- With sound atoms only the size is left.
-      by-size : judged n (formulaOf q) ≡ cond (leb (z .tokens) 32 && leb (z .atoms) 12 && narrow (asTrue (x .formula))) none (some 9)
+      by-size : judged n (formulaOf q) ≡ cond (leb (z .tokens) 32 && leb (z .atoms) 12 && narrow (asTrue (x .formula))) (Fine (figuresOf (asTrue (x .formula)))) TooLarge
       unfolding judged fits
       by-size = simp (one-formula, sym (x .sound) ∙ s, x .tokens, x .atoms)
 
-      pub judged-tokens : 32 < z .tokens → some 9 ≡ judged n (formulaOf q)
+      pub judged-tokens : 32 < z .tokens → TooLarge ≡ judged n (formulaOf q)
       judged-tokens t = sym (by-size ∙ simp (lt-leb _ _ t))
 
-      pub judged-atoms : z .tokens ≤ 32 → 12 < z .atoms → some 9 ≡ judged n (formulaOf q)
+      pub judged-atoms : z .tokens ≤ 32 → 12 < z .atoms → TooLarge ≡ judged n (formulaOf q)
       judged-atoms t a = sym (by-size ∙ simp (le-leb _ _ t, lt-leb _ _ a))
 
-      pub judged-wide : z .tokens ≤ 32 → z .atoms ≤ 12 → z .extent ≡ Wide → some 9 ≡ judged n (formulaOf q)
+      pub judged-wide : z .tokens ≤ 32 → z .atoms ≤ 12 → z .extent ≡ Wide → TooLarge ≡ judged n (formulaOf q)
       judged-wide t a w = sym (by-size ∙ simp (le-leb _ _ t, le-leb _ _ a, wide-of (asTrue (x .formula)) (sym w ∙ x .extent)))
 
-      pub judged-fine : (w b : ℕ) → z .tokens ≤ 32 → z .atoms ≤ 12 → z .extent ≡ Narrow w b → none ≡ judged n (formulaOf q)
-      judged-fine w b t a e =
-          sym (by-size ∙ simp (le-leb _ _ t, le-leb _ _ a, narrow-of (asTrue (x .formula)) w b (sym e ∙ x .extent) .narrow))
+      pub judged-fine : (g : Figures) → z .tokens ≤ 32 → z .atoms ≤ 12 → z .extent ≡ Narrow g → Fine g ≡ judged n (formulaOf q)
+      judged-fine g t a e =
+          let w = narrow-of (asTrue (x .formula)) g (sym e ∙ x .extent) in
+          ap Fine (w .figures) ∙ sym (by-size ∙ simp (le-leb _ _ t, le-leb _ _ a, w .narrow))
+
+-- A FINE QUESTION
+
+module _ (n : ℕ) {q : List ℕ} (f : Formula) (e : q ≡ prefix f) (s : sound n f ≡ true) (h : fits f ≡ true) where
+  pub judged-prefix : judged n (formulaOf q) ≡ Fine (figuresOf (asTrue f))
+  unfolding judged
+  judged-prefix = simp (e, formula-prefix f, s, h)
+
+  pub figures-prefix : {g : Figures} → Fine g ≡ judged n (formulaOf q) → g ≡ figuresOf (asTrue f)
+  figures-prefix v = let x = v ∙ judged-prefix in cc

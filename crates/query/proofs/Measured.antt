@@ -74,7 +74,7 @@ sized-short {s = s} h x =
       used = omega arith;
       tokens = omega arith;
       atoms = omega arith;
-      extent = rw (x .extent) (extent-small (normal s (x .formula)));
+      extent = rw (x .extent) (extent-small s (x .formula) (omega (arith, x .atoms)));
     }
 
 pub measured-brief : (n : ℕ) (s : Bool) (q : List ℕ) (p : Front) → length q ≤ 99 → Measured n s q p → Brief p

@@ -1,24 +1,28 @@
-// Whether a question's bytes are exactly one formula, with sound atoms and its size within the limits.
+// Whether a question's bytes are exactly one formula, with sound atoms and its size within the limits, and the figures of such a one.
 use atoms::Front;
 use atoms::Size;
 use atoms::leaf;
 use extents::Extent;
+use extents::Figures;
 use extents::join;
 use extents::lift;
 ghost use mathlib.Core.Path.{_≡_};
-ghost use mathlib.Core.Bool.{Bool, not, _&&_};
+ghost use mathlib.Core.Bool.{Bool, true, not, _&&_};
 ghost use mathlib.Core.List.{List, _∷_};
 ghost use Prim.Native.Nat.{ℕ, _≤_, _<_};
 ghost use lib.ListN.{length, drop};
 ghost use lib.Dec.{eqb};
-ghost use Rattle.model.specs.Formula.{formulaOf};
-ghost use Rattle.query.specs.Judged.{judged, faultOf};
+ghost use Rattle.model.specs.Formula.{Formula, prefix, formulaOf, sound};
+ghost use Rattle.model.specs.Rules.{asTrue};
+ghost use Rattle.model.specs.Size.{fits};
+ghost use Rattle.extents.specs.Extents.{figuresOf};
+ghost use Rattle.query.specs.Judged.{judged};
 ghost use Rattle.atoms.specs.Measured.{Measured, Sized};
 ghost use Rattle.query.specs.Sizes.{Short, Brief, Longer, Together};
 
-// What is said of a question.
+// What is said of a question: that it is fine and what its figures are as true, or why it is not.
 pub enum Verdict {
-    Fine,
+    Fine(Figures),
     Malformed,
     TooLarge,
 }
@@ -122,10 +126,10 @@ fn measure(q: &[u8], n: usize, sign: bool) -> Front
     }
 }
 
-// Whether the question is one formula, its atoms sound, and not too large.
+// Whether the question is one formula, its atoms sound, and not too large; if so, its figures.
 pub fn judge(q: &[u8], n: usize) -> Verdict
     requires { ⌜ length (now q) ≤ 99 ⌝ }
-    ensures { λ r. ⌜ faultOf r ≡ judged n (formulaOf (now (q .entry))) ⌝ }
+    ensures { λ r. ⌜ r ≡ judged n (formulaOf (now (q .entry))) ⌝ }
 {
     let m = measure(q, n, true);
     let Front::Formula(z) = m else {
@@ -144,8 +148,26 @@ pub fn judge(q: &[u8], n: usize) -> Verdict
         return Verdict::TooLarge;
     }
     let e = z.extent;
-    let Extent::Narrow(_, _) = e else {
+    let Extent::Narrow(g) = e else {
         return Verdict::TooLarge;
     };
-    Verdict::Fine
+    Verdict::Fine(g)
+}
+
+// The figures of a question that is fine, as every question of an accepted log is. Of any other they are those of no structure.
+pub fn figures(q: &[u8], n: usize) -> Figures
+    requires { ⌜ length (now q) ≤ 99 ⌝ }
+    ensures { λ r. ⌜ ((f : Formula) → now (q .entry) ≡ prefix f → sound n f ≡ true → fits f ≡ true → r ≡ figuresOf (asTrue f)) ⌝ }
+{
+    let v = judge(q, n);
+    let Verdict::Fine(g) = v else {
+        return Figures {
+            width: 0,
+            bars: 0,
+            most: 0,
+            held: 0,
+            pairs: 0,
+        };
+    };
+    g
 }

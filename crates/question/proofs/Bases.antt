@@ -11,6 +11,7 @@ use Rattle.model.specs.Formula.{Formula, prefix}
 use Rattle.model.specs.Computation.{Computation, full}
 use Rattle.model.specs.Rules.{asTrue}
 use Rattle.model.specs.Size.{held}
+use Rattle.model.specs.Forecast.{forecast}
 use Rattle.model.specs.Basis.{basis}
 use Rattle.lattice.proofs.Size.{basis-width, narrow-to}
 use Rattle.lattice.proofs.Held.{fits-to, width-held, barspace-fits}
@@ -21,14 +22,19 @@ use Rattle.structure.proofs.Standing.{length-standing}
 use Rattle.token.specs.Contract.{Ready, Made}
 use Rattle.listing.specs.Stands.{Stands}
 use Rattle.listing.specs.Worked.{Worked}
-use Rattle.question.specs.Questions.{Question, cellsHeld}
+use Rattle.question.specs.Questions.{Question}
 
 module _ {K : Computation} {f : Formula} {q : List ℕ} {shape : Shape} {starts values : List ℕ} (g : Question K f q shape starts values) where
   spelt : q ≡ prefix f ++ []
   spelt = g .spells ∙ sym (append-nil (prefix f))
 
+  -- The cells forecast are those of the structures held.
+  cells-held : forecast K f .cells ≡ held (asTrue f) * ((shape .e + 1) * shape .n)
+  unfolding forecast
+  cells-held = rw (g .laid .0 .stationed, g .laid .0 .counted) (omega arith)
+
   -- There is room.
-  pub room : (ws bs : ℕ) → cellsHeld f shape ≤ ws → barspaceSize ≤ bs → Ready true shape q starts values ws bs
+  pub room : (ws bs : ℕ) → forecast K f .cells ≤ ws → barspaceSize ≤ bs → Ready true shape q starts values ws bs
   room ws bs h k =
       record {
         computation = K;
@@ -39,7 +45,7 @@ module _ {K : Computation} {f : Formula} {q : List ℕ} {shape : Shape} {starts 
         known = g .named;
         slim = fits-to f (g .fitting) .2;
         short = fits-to f (g .fitting) .0;
-        cells-fit = h;
+        cells-fit = rw cells-held at h;
         bars-fit = le-trans (barspace-fits f (g .fitting) (shape .n) (g .laid .0 .shaped .few-stations)) k;
       }
 
@@ -58,10 +64,10 @@ module _ {K : Computation} {f : Formula} {q : List ℕ} {shape : Shape} {starts 
     count-held : count ≤ held (asTrue f)
     count-held = omega (arith, length-standing (shape .n) (full K) count ws bs, ap length is-basis, basis-width K (asTrue f), width-held (asTrue f))
 
-    pub stands : cellsHeld f shape ≤ length ws → barspaceSize ≤ length bs → Stands shape count ws bs
+    pub stands : forecast K f .cells ≤ length ws → barspaceSize ≤ length bs → Stands shape count ws bs
     stands h b = record {
       shaped = g .laid .0 .shaped;
-      cells-fit = le-trans (mul-le-mul-right ((shape .e + 1) * shape .n) count-held) h;
+      cells-fit = le-trans (mul-le-mul-right ((shape .e + 1) * shape .n) count-held) (rw cells-held at h);
       bars-fit = le-trans (mul-le-mul {n₂ = 16} {m₂ = 128} count-few (omega (arith, g .laid .0 .shaped .few-stations))) (omega arith);
       least-there = w .least;
     }

@@ -1,12 +1,11 @@
 -- A question of a log: what is known when it is worked out.
 use mathlib.Core.Path.{_≡_}
-use Prim.Native.Nat.{ℕ, _+_, _*_}
+use Prim.Native.Nat.{ℕ}
 use mathlib.Core.Bool.{true}
 use mathlib.Core.List.{List}
 use Rattle.model.specs.Formula.{Formula, prefix, sound}
-use Rattle.model.specs.Size.{held, fits}
+use Rattle.model.specs.Size.{fits}
 use Rattle.model.specs.Computation.{Computation}
-use Rattle.model.specs.Rules.{asTrue}
 use Rattle.structure.specs.declared.Shape.{Shape}
 use Rattle.structure.specs.Laid.{Given}
 
@@ -16,7 +15,3 @@ pub record Question (K : Computation) (f : Formula) (q : List ℕ) (x : Shape) (
   pub spells : q ≡ prefix f
   pub named : sound (x .n) f ≡ true
   pub fitting : fits f ≡ true
-
--- The cells in which it is worked out: those of the structures held.
-abbrev pub cellsHeld : Formula → Shape → ℕ
-cellsHeld f x = held (asTrue f) * ((x .e + 1) * x .n)

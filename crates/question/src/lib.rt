@@ -7,10 +7,11 @@ ghost use lib.ListN.{length};
 ghost use Rattle.model.specs.Limits.{barspaceSize, lineSize};
 ghost use Rattle.model.specs.Formula.{Formula};
 ghost use Rattle.model.specs.Computation.{Computation};
+ghost use Rattle.model.specs.Forecast.{forecast};
 ghost use Rattle.model.specs.Answer.{trueAt, answer, answerLine};
 ghost use Rattle.listing.specs.Worked.{Worked};
 ghost use Rattle.line.specs.AtFront.{AtFront};
-ghost use Rattle.question.specs.Questions.{Question, cellsHeld};
+ghost use Rattle.question.specs.Questions.{Question};
 
 // Works the question's basis out, which then stands at the front of the workspace and the bar space.
 pub fn work_out(
@@ -21,7 +22,7 @@ pub fn work_out(
     ws: &mut [u8],
     bs: &mut [u8],
 ) -> token::Basis
-    requires { ⌜ ((K : Computation) × (f : Formula) × Question K f (now q) x (now starts) (now facts) × (cellsHeld f x ≤ length (now ws))) ⌝ }
+    requires { ⌜ ((K : Computation) × (f : Formula) × Question K f (now q) x (now starts) (now facts) × (forecast K f .cells ≤ length (now ws))) ⌝ }
     requires { ⌜ barspaceSize ≤ length (now bs) ⌝ }
     ensures { λ r. ⌜ ((K : Computation) (f : Formula) → Question K f (now (q .entry)) x (now (starts .entry)) (now (facts .entry)) → Worked K f x (r .sets .count) (r .rounds) (now (ws .exit)) (now (bs .exit))) ⌝ }
 {
@@ -49,7 +50,7 @@ pub fn put_line(
     bs: &mut [u8],
     out: &mut [u8],
 ) -> usize
-    requires { ⌜ ((K : Computation) × (f : Formula) × Question K f (now q) x (now starts) (now facts) × (cellsHeld f x ≤ length (now ws))) ⌝ }
+    requires { ⌜ ((K : Computation) × (f : Formula) × Question K f (now q) x (now starts) (now facts) × (forecast K f .cells ≤ length (now ws))) ⌝ }
     requires { ⌜ (barspaceSize ≤ length (now bs)) × (lineSize ≤ length (now out)) ⌝ }
     ensures { λ r. ⌜ ((K : Computation) (f : Formula) → Question K f (now (q .entry)) x (now (starts .entry)) (now (facts .entry)) → AtFront (answerLine (answer K f)) r (now (out .entry)) (now (out .exit))) ⌝ }
 {
@@ -69,7 +70,7 @@ pub fn true_at(
     ws: &mut [u8],
     bs: &mut [u8],
 ) -> bool
-    requires { ⌜ ((K : Computation) × (f : Formula) × Question K f (now q) x (now starts) (now facts) × (cellsHeld f x ≤ length (now ws))) ⌝ }
+    requires { ⌜ ((K : Computation) × (f : Formula) × Question K f (now q) x (now starts) (now facts) × (forecast K f .cells ≤ length (now ws))) ⌝ }
     requires { ⌜ (length (now cut) ≡ x .n) × (barspaceSize ≤ length (now bs)) ⌝ }
     ensures { λ r. ⌜ ((K : Computation) (f : Formula) → Question K f (now (q .entry)) x (now (starts .entry)) (now (facts .entry)) → r ≡ trueAt K f (now (cut .entry))) ⌝ }
 {

@@ -1,6 +1,7 @@
 // What the test program is made of: the cases of an input, slices lent with a known content, and printing.
 use cells::wide;
 use cells::word;
+use model::Forecast;
 use model::Log;
 use model::Refusal;
 ghost use mathlib.Core.Path.{_≡_};
@@ -10,18 +11,19 @@ ghost use Rattle.trial.specs.Case.{Within};
 ghost use Rattle.trial.specs.Lent.{lent};
 
 // The bytes in front of a case.
-pub const HEAD: usize = 8;
+pub const HEAD: usize = 10;
 
 // What lent slices hold before a call.
 pub const LENT: u8 = 165;
 
-// A case of an input. Its first eight bytes are a letter, the question number, the length of the cut, 1 if the workspace and 2 if the
-// bar space is to be one cell short, and in two bytes each the size of the output and the length of the log or list. The cut stands
+// A case of an input. Its first ten bytes are a letter, the question number, the length of the cut, 1 if the bar space is to be one
+// cell short, and in two bytes each the cells of the workspace, the size of the output and the length of the log or list. The cut stands
 // behind them, from `cut` to `data`, and the log or list behind that, to `end`.
 pub struct Case {
     pub letter: u8,
     pub question: usize,
     pub short: usize,
+    pub cells: usize,
     pub size: usize,
     pub cut: usize,
     pub data: usize,
@@ -37,17 +39,18 @@ fn within(input: &[u8], at: usize) -> usize
 
 // The case at a place; the input's end is also its end.
 pub fn case_at(input: &[u8], at: usize) -> Case
-    requires { ⌜ at + 8 ≤ length (now input) ⌝ }
+    requires { ⌜ at + 10 ≤ length (now input) ⌝ }
     ensures { λ r. ⌜ Within (length (now (input .entry))) at r ⌝ }
 {
     let cut = at + HEAD;
     let data = within(input, cut + wide(input[at + 2]));
-    let end = within(input, data + word(input, at + 6) as usize);
+    let end = within(input, data + word(input, at + 8) as usize);
     Case {
         letter: input[at],
         question: wide(input[at + 1]),
         short: wide(input[at + 3]),
-        size: word(input, at + 4) as usize,
+        cells: word(input, at + 4) as usize,
+        size: word(input, at + 6) as usize,
         cut: cut,
         data: data,
         end: end,
@@ -147,6 +150,22 @@ pub fn print_written(len: usize, out: &[u8]) {
 pub fn print_unwritten(r: Refusal, out: &[u8]) {
     print_refusal(r);
     print_output(out, 0);
+}
+
+// The figures of a forecast.
+pub fn print_forecast(f: Forecast) {
+    print_number(f.width);
+    print_number(f.bars);
+    print_number(f.held);
+    print_number(f.cells);
+    print_number(f.ceiling);
+    io::write_all(1, b"\n");
+}
+
+// The refusal of Forecast, to which nothing is lent.
+pub fn print_unforeseen(r: Refusal) {
+    print_refusal(r);
+    io::write_all(1, b"\n");
 }
 
 // What a walk over a line finds: the number of its bytes, their sum, the looks that it took, and the bytes.

@@ -34,11 +34,13 @@ impl Structure {
     }
 }
 
-/// The most that was met: rounds of a start, structures of a basis, bars of a structure in it, and of the right one of a pair.
+/// The most that was met: rounds of a start, structures of a basis, structures that stood at a time, bars of a structure in a basis,
+/// and of the right one of a pair.
 #[derive(Default)]
 pub struct Most {
     pub rounds: u32,
     pub structures: usize,
+    pub standing: usize,
     pub bars: usize,
     pub right: usize,
 }
@@ -49,6 +51,8 @@ pub struct Worker<'a> {
     offs: [usize; 8],
     /// The empty cut and each event's clock.
     starts: Vec<Cut>,
+    /// Structures of left operands, while the right ones are worked out.
+    waiting: usize,
     pub rounds: u32,
     pub most: Most,
 }
@@ -61,7 +65,7 @@ impl<'a> Worker<'a> {
             offs[j] = starts.len() - 1;
             starts.extend(h[1..].iter().map(|e| e.clock));
         }
-        Worker { log, offs, starts, rounds: 0, most: Most::default() }
+        Worker { log, offs, starts, waiting: 0, rounds: 0, most: Most::default() }
     }
 
     /// The least cut of a set that contains c, or none. Every row contains row 0, which stands for a count of 0.
@@ -116,32 +120,50 @@ impl<'a> Worker<'a> {
         Structure { rows, bars: left.bars.iter().chain(&right.bars).copied().collect() }
     }
 
+    /// The structures of both operands.
+    fn operands(&mut self, f: &mut Tokens, sign: bool) -> (Vec<Structure>, Vec<Structure>) {
+        let left = self.basis(f, sign);
+        self.waiting += left.len();
+        let right = self.basis(f, sign);
+        self.waiting -= left.len();
+        (left, right)
+    }
+
+    /// So many structures stand now, beside those that wait.
+    fn stand(&mut self, structures: usize) {
+        self.most.standing = self.most.standing.max(self.waiting + structures);
+    }
+
     pub fn basis(&mut self, f: &mut Tokens, sign: bool) -> Vec<Structure> {
         let mut out = Vec::new();
         match (f.take(), sign) {
             (Token::Range { station, lo, hi }, _) => out.push(self.range(station, |v| within(lo, hi, v) == sign)),
             (Token::Not, _) => out = self.basis(f, !sign),
             (Token::And, true) | (Token::Or, false) => {
-                let (left, right) = (self.basis(f, sign), self.basis(f, sign));
+                let (left, right) = self.operands(f, sign);
                 for l in &left {
                     for r in &right {
                         out.push(self.pair(l, r));
                     }
                 }
+                self.stand(left.len() + right.len() + out.len());
             }
             (Token::And, false) | (Token::Or, true) => {
-                out = self.basis(f, sign);
-                out.append(&mut self.basis(f, sign));
+                let (mut left, mut right) = self.operands(f, sign);
+                out.append(&mut left);
+                out.append(&mut right);
             }
             (Token::Possibly, true) | (Token::Always, false) => {
                 out = self.basis(f, sign);
                 out.iter_mut().for_each(|s| self.lower(s));
             }
             (Token::Possibly, false) | (Token::Always, true) => {
-                let bars = self.basis(f, !sign).iter().map(|s| greatest(&s.rows)).collect();
+                let bars: Vec<Cut> = self.basis(f, !sign).iter().map(|s| greatest(&s.rows)).collect();
+                self.stand(bars.len() + 1);
                 out.push(Structure { rows: self.starts.clone(), bars });
             }
         }
+        self.stand(out.len());
         out.retain(|s| !s.dropped());
         self.most.structures = self.most.structures.max(out.len());
         self.most.bars = out.iter().map(|s| s.bars.len()).fold(self.most.bars, usize::max);

@@ -1,13 +1,14 @@
-//! One made-up log through all four operations, here and in the proved code.
+//! One made-up log through all five operations, here and in the proved code.
 use crate::basis::Worker;
 use crate::draw::Draw;
 use crate::ends;
 use crate::fault::Refusal;
 use crate::formula::{self, Token, Tokens};
+use crate::guard::Guarded;
 use crate::listing;
 use crate::log::{Log, LIST, LOG};
 use crate::made::{self, Shape};
-use crate::operations::{self as here, answer_line, BARS, LINE, WORKSPACE};
+use crate::operations::{self as here, answer_line, costs, Costs, BARS, LINE, WORKSPACE};
 use crate::peak::{Peak, Peaks};
 use crate::proved::{self, Reply};
 use crate::zero::Zeros;
@@ -57,46 +58,76 @@ impl Case {
     }
 }
 
-/// A buffer of which a part is lent, beside what it held before.
+/// What is lent: just what is asked for; of the workspace one cell less than that; or sizes about what is asked for.
+#[derive(Clone, Copy, PartialEq)]
+enum Lends {
+    Just,
+    OneLess,
+    About,
+}
+
+use Lends::*;
+
+/// A buffer of which the last bytes are lent, beside what it held before. Behind them stands a page that must not be touched.
 struct Lent {
     asked: usize,
+    most: usize,
     size: usize,
-    bytes: Vec<u8>,
+    bytes: Guarded,
     before: Vec<u8>,
 }
 
 impl Lent {
     fn new(d: &mut Draw, asked: usize) -> Self {
-        let pattern = d.byte();
-        let bytes: Vec<u8> = (0..asked + 64).map(|i| pattern.wrapping_add(i as u8)).collect();
-        Lent { asked, size: asked, before: bytes.clone(), bytes }
+        let (pattern, mut bytes) = (d.byte(), Guarded::new(asked + 64));
+        bytes.bytes_mut().iter_mut().enumerate().for_each(|(i, b)| *b = pattern.wrapping_add(i as u8));
+        Lent { asked, most: asked, size: asked, before: bytes.bytes().to_vec(), bytes }
     }
 
-    /// Lends as much as is asked for, or a little more or less.
+    /// Lends as much as is asked for, or nothing, a little more or less, or the most that is ever asked for.
     fn lend(&mut self, d: &mut Draw, exact: bool) {
         let size = self.asked;
-        self.size = if exact { size } else { d.pick(&[0, size / 2, size - 1, size, size, size + 1]) };
+        self.size = if exact { size } else { d.pick(&[0, size / 2, size - 1, size, size, size + 1, self.most]) };
+    }
+
+    /// Where the lent part begins.
+    fn start(&self) -> usize {
+        self.before.len() - self.size
     }
 
     fn part(&mut self) -> &mut [u8] {
-        &mut self.bytes[..self.size]
+        let start = self.start();
+        &mut self.bytes.bytes_mut()[start..]
+    }
+
+    fn part_before(&mut self) -> &mut [u8] {
+        let start = self.start();
+        &mut self.before[start..]
+    }
+
+    /// The lent part may hold anything.
+    fn take_over(&mut self) {
+        let start = self.start();
+        self.before[start..].copy_from_slice(&self.bytes.bytes()[start..]);
     }
 
     fn same(&self, what: &str) {
-        if self.bytes != self.before {
-            let i = (0..self.bytes.len()).find(|&i| self.bytes[i] != self.before[i]).unwrap_or(0);
-            panic!("{what}: {} bytes were lent; byte {i} is {}, not {}", self.size, self.bytes[i], self.before[i]);
+        let (bytes, before) = (self.bytes.bytes(), &self.before[..]);
+        if bytes != before {
+            let i = (0..bytes.len()).find(|&i| bytes[i] != before[i]).unwrap_or(0);
+            panic!("{what}: byte {i} is {}, not {}; lent were {} bytes, from byte {} on", bytes[i], before[i], self.size, self.start());
         }
     }
 }
 
-/// What was seen: calls, accepted logs, Holds' no and yes, answers that list no, one and several cuts, each fault, peaks, and ranges
-/// through zero.
+/// What was seen: calls, accepted logs, Holds' no and yes, answers that list no, one and several cuts, workspaces refused for one cell
+/// less than forecast and accepted with just these cells, each fault, peaks, and ranges through zero.
 pub struct Counts {
     pub calls: usize,
     pub accepted: usize,
     pub holds: [usize; 2],
     pub answers: [usize; 3],
+    pub limit: [usize; 2],
     pub faults: [usize; 256],
     pub peaks: Peaks,
     pub zeros: Zeros,
@@ -104,7 +135,8 @@ pub struct Counts {
 
 impl Counts {
     pub fn new() -> Self {
-        Counts { calls: 0, accepted: 0, holds: [0; 2], answers: [0; 3], faults: [0; 256], peaks: Peaks::default(), zeros: Zeros::default() }
+        let (peaks, zeros) = (Peaks::default(), Zeros::default());
+        Counts { calls: 0, accepted: 0, holds: [0; 2], answers: [0; 3], limit: [0; 2], faults: [0; 256], peaks, zeros }
     }
 
     fn meet_log(&mut self, log: &Log, bytes: usize) {
@@ -116,35 +148,49 @@ impl Counts {
         ]);
     }
 
-    fn meet_question(&mut self, f: &[Token], w: &Worker, listed: usize) {
-        let (width, bars) = formula::size(&mut Tokens(f), true).expect("a question that fits");
+    fn meet_question(&mut self, f: &[Token], [width, bars, held, cells, ceiling]: Costs, w: &Worker, listed: usize) {
         self.peaks.meet(&[
             (Peak::Tokens, f.len()), (Peak::Ranges, formula::ranges(f)), (Peak::Width, width), (Peak::BarCount, bars),
+            (Peak::Held, held), (Peak::Cells, cells), (Peak::Ceiling, ceiling), (Peak::Standing, w.most.standing),
             (Peak::Structures, w.most.structures), (Peak::Bars, w.most.bars), (Peak::RightBars, w.most.right),
             (Peak::StartRounds, w.most.rounds as usize), (Peak::Rounds, w.rounds as usize), (Peak::Listed, listed),
         ]);
     }
 
-    /// Both replies are equal; hands back whether they accept.
-    fn same<T: PartialEq + Debug>(&mut self, what: &str, proved: &Reply<T>, here: Result<T, Refusal>) -> bool {
+    /// Both replies are equal.
+    fn same<T: PartialEq + Debug>(&mut self, what: &str, proved: &Reply<T>, here: Result<T, Refusal>) {
         self.calls += 1;
         if let Err(Refusal(fault, _)) = here {
             self.faults[fault as usize] += 1;
         }
         assert_eq!(*proved, here.map_err(|Refusal(fault, line)| (fault.number(), line)), "{what}: proved and here");
-        proved.is_ok()
     }
+}
+
+fn number(digits: &[u8]) -> usize {
+    digits.iter().fold(0, |n, &b| n * 16 + (b as char).to_digit(16).expect("a digit") as usize)
 }
 
 /// How many cuts an answer line lists.
 fn cuts_listed(line: &[u8]) -> usize {
-    let [high, low] = [line[4], line[5]].map(|b| (b as char).to_digit(16).expect("a digit") as usize);
-    high * 16 + low
+    number(&line[4..6])
 }
 
-/// The calls on one log, with the buffers that they are lent.
+/// The rounds of an answer line, the four bytes before its check byte.
+fn rounds(line: &[u8]) -> usize {
+    number(&line[line.len() - 11..line.len() - 3])
+}
+
+/// Nothing is above the forecast: listed cuts, bars of a structure, structures that stood at a time, rounds.
+fn foretold([width, bars, held, _, ceiling]: Costs, line: &[u8], w: &Worker) {
+    let met = [cuts_listed(line), w.most.bars, w.most.standing, rounds(line)];
+    assert!(met.iter().zip([width, bars, held, ceiling]).all(|(m, most)| *m <= most), "{met:?} above the forecast");
+}
+
+/// The calls on one log, with the cells forecast for its questions, and the buffers that are lent.
 struct Calls<'a> {
     log: &'a [u8],
+    cells: Vec<usize>,
     draw: Draw,
     list: Lent,
     lines: Lent,
@@ -159,7 +205,7 @@ impl Calls<'_> {
         let out = &mut self.list;
         out.lend(&mut self.draw, false);
         let reply = proved::read(self.log, out.part());
-        let here = here::read(self.log, &mut out.before[..out.size]);
+        let here = here::read(self.log, out.part_before());
         self.counts.same("Read", &reply, here);
         out.same("Read's output");
     }
@@ -168,49 +214,62 @@ impl Calls<'_> {
         let out = &mut self.lines;
         out.lend(&mut self.draw, false);
         let reply = proved::write(list, out.part());
-        let here = here::write(list, &mut out.before[..out.size]);
+        let here = here::write(list, out.part_before());
         self.counts.same("Write", &reply, here);
         out.same("Write's output");
     }
 
-    fn lend_room(&mut self, exact: bool) {
-        self.ws.lend(&mut self.draw, exact);
-        self.bs.lend(&mut self.draw, exact);
+    /// The workspace of a question that is not there is asked for as if it took all cells.
+    fn lend_room(&mut self, q: usize, lends: Lends) {
+        let cells = self.cells.get(q).copied().unwrap_or(WORKSPACE);
+        self.ws.asked = cells - (lends == OneLess) as usize;
+        self.ws.lend(&mut self.draw, lends != About);
+        self.bs.lend(&mut self.draw, lends != About);
     }
 
     /// Workspace and bar space may hold anything after an accepted call, and are as lent after a refusal.
-    fn check_room(&mut self, accepted: bool) {
+    fn check_room(&mut self, q: usize, refused: Option<(u8, u32)>) {
         for b in [&mut self.ws, &mut self.bs] {
-            if accepted {
-                b.before[..b.size].copy_from_slice(&b.bytes[..b.size]);
+            if refused.is_none() {
+                b.take_over();
             }
             b.same("workspace or bar space");
         }
+        let (cells, lent) = (self.cells.get(q).copied(), self.ws.size);
+        let one_less = refused == Some((11, 0)) && self.bs.size >= BARS && cells == Some(lent + 1);
+        self.counts.limit[0] += one_less as usize;
+        self.counts.limit[1] += (refused.is_none() && cells == Some(lent)) as usize;
+    }
+
+    fn forecast(&mut self, q: usize) -> Option<Costs> {
+        let reply = proved::forecast(self.log, q);
+        self.counts.same("Forecast", &reply, here::forecast(self.log, q));
+        reply.ok()
     }
 
     /// The line, if the question is answered.
-    fn answer(&mut self, q: usize, exact: bool) -> Option<Vec<u8>> {
-        self.lend_room(exact);
+    fn answer(&mut self, q: usize, lends: Lends) -> Option<Vec<u8>> {
+        self.lend_room(q, lends);
         let out = &mut self.line;
-        out.lend(&mut self.draw, exact);
+        out.lend(&mut self.draw, lends != About);
         let reply = proved::answer(self.log, q, self.ws.part(), self.bs.part(), out.part());
-        let here = here::answer(self.log, q, self.ws.size, self.bs.size, &mut out.before[..out.size]);
-        let accepted = self.counts.same("Answer", &reply, here);
+        let here = here::answer(self.log, q, self.ws.size, self.bs.size, out.part_before());
+        self.counts.same("Answer", &reply, here);
         out.same("Answer's output");
-        self.check_room(accepted);
+        self.check_room(q, reply.err());
         reply.ok().map(|n| {
-            let line = self.line.bytes[..n].to_vec();
+            let line = self.line.part()[..n].to_vec();
             self.counts.answers[cuts_listed(&line).min(2)] += 1;
             line
         })
     }
 
-    fn holds(&mut self, q: usize, cut: &[u8], exact: bool) -> Option<bool> {
-        self.lend_room(exact);
+    fn holds(&mut self, q: usize, cut: &[u8], lends: Lends) -> Option<bool> {
+        self.lend_room(q, lends);
         let reply = proved::holds(self.log, q, cut, self.ws.part(), self.bs.part());
         let here = here::holds(self.log, q, cut, self.ws.size, self.bs.size);
-        let accepted = self.counts.same("Holds", &reply, here.map(usize::from));
-        self.check_room(accepted);
+        self.counts.same("Holds", &reply, here.map(usize::from));
+        self.check_room(q, reply.err());
         reply.ok().map(|yes| {
             self.counts.holds[yes] += 1;
             yes == 1
@@ -222,8 +281,15 @@ impl Calls<'_> {
         let d = &mut self.draw;
         let q = if d.below(4) == 0 { d.pick(&[questions, 255, 256, usize::MAX]) } else { d.below(questions + 1) };
         let cut: Vec<u8> = (0..d.pick(&[0, stations, stations, stations, stations + 1])).map(|_| d.pick(&[0, 0, 0, 1, 1, 2, 128, 255])).collect();
-        self.answer(q, false);
-        self.holds(q, &cut, false);
+        self.forecast(q);
+        self.answer(q, About);
+        self.holds(q, &cut, About);
+    }
+
+    /// One question with one cell less than is forecast for it.
+    fn refused(&mut self, q: usize, stations: usize) {
+        let (line, truth) = (self.answer(q, OneLess), self.holds(q, &[0; 8][..stations], OneLess));
+        assert!(line.is_none() && truth.is_none(), "question {q}: answered with one cell less than forecast");
     }
 
     /// One question at every cut, against the plain listing; the rounds are those of the independent implementation.
@@ -237,7 +303,7 @@ impl Calls<'_> {
         let (all, step) = (listing::all(log), 1 + rounds as usize * cuts.len() / 400_000);
         for c in all.into_iter().skip(self.draw.below(step)).step_by(step) {
             let expected = cuts.binary_search(&c).ok().map(|i| truth[i]);
-            assert_eq!(self.holds(q, &c[..n], true), expected, "question {q} at {c:?}: proved and listed");
+            assert_eq!(self.holds(q, &c[..n], Just), expected, "question {q} at {c:?}: proved and listed");
         }
     }
 
@@ -248,26 +314,30 @@ impl Calls<'_> {
             let events = &log.history[self.draw.below(log.stations())];
             let clock = self.draw.pick(events).clock;
             c.iter_mut().zip(clock).for_each(|(x, y)| *x = (*x).max(y));
-            self.holds(q, &c[..log.stations()], true);
+            self.holds(q, &c[..log.stations()], Just);
         }
     }
 }
 
-/// One case through all four operations: every question, and for a small log every cut.
+/// One case through all five operations: every question, and for a small log every cut.
 pub fn compare(case: Case, counts: &mut Counts) {
     let Case { log: data, list, mut draw } = case;
     let [a, b, c, d, e] = [LIST, LOG, LINE, WORKSPACE, BARS].map(|asked| Lent::new(&mut draw, asked));
-    let mut calls = Calls { log: &data, draw, list: a, lines: b, line: c, ws: d, bs: e, counts };
+    let mut calls = Calls { log: &data, cells: vec![], draw, list: a, lines: b, line: c, ws: d, bs: e, counts };
     calls.read();
     calls.write(&list);
     let Ok(log) = Log::read(&data) else { return calls.odd(3, 3) };
     calls.counts.meet_log(&log, data.len());
+    calls.cells = log.questions.iter().map(|f| costs(&log, f)[3]).collect();
     calls.odd(log.questions.len(), log.stations());
     for (q, f) in log.questions.iter().enumerate() {
-        let line = calls.answer(q, true).expect("an answer");
+        let costs = calls.forecast(q).expect("a forecast");
+        calls.refused(q, log.stations());
+        let line = calls.answer(q, Just).expect("an answer");
         let mut worker = Worker::new(&log);
         worker.basis(&mut Tokens(f), true);
-        calls.counts.meet_question(f, &worker, cuts_listed(&line));
+        foretold(costs, &line, &worker);
+        calls.counts.meet_question(f, costs, &worker, cuts_listed(&line));
         calls.counts.zeros.meet(&log, &mut Tokens(f), true);
         if listing::count(&log) <= 400 {
             calls.listed(&log, q, &line, worker.rounds);

@@ -161,6 +161,30 @@ fn full(d: &mut Draw) -> Frames {
     fs
 }
 
+/// A question with the most structures held and the highest ceiling: four ranges, then four two-way ors, each joined with all behind it.
+/// With ranges of every value no structure is dropped.
+fn deepest(d: &mut Draw, s: Shape) -> Vec<u8> {
+    let every = d.below(2) == 0;
+    let mut range = || if every { vec![1, d.below(s.stations) as u8, 0, 0, 255, 255] } else { made::range(d, s) };
+    let mut q = [vec![4], range(), range()].concat();
+    for _ in 0..3 {
+        q = [vec![3, 4], range(), range(), q].concat();
+    }
+    for _ in 0..4 {
+        q = [vec![3], range(), q].concat();
+    }
+    [vec![0x30], q].concat()
+}
+
+/// A log that takes all the cells that a question can, or one with fewer stations.
+fn deep(d: &mut Draw) -> Frames {
+    let stations = d.pick(&[8, 8, 8, 1, 3]);
+    let s = Shape { stations, events: 127, questions: 0, ranges: 0, step: d.pick(&[1, 255, 21845]), zero: d.pick(&[0, 4]) };
+    let mut fs = made::frames(d, s);
+    fs.push(deepest(d, s));
+    fs
+}
+
 /// A good header but for its station count, 0 or 9, and frames that go with 9 or another one.
 fn miscounted(d: &mut Draw) -> Frames {
     let s = Shape { stations: d.pick(&[1, 8, 9, 9]), events: d.below(9), questions: d.below(3), ranges: 3, step: 1, zero: 0 };
@@ -172,10 +196,11 @@ fn miscounted(d: &mut Draw) -> Frames {
 }
 
 pub fn frames(d: &mut Draw) -> Frames {
-    match d.below(16) {
+    match d.below(18) {
         0..=6 => apart(d),
         7..=10 => turns(d),
         11 | 12 => full(d),
+        13 | 14 => deep(d),
         _ => miscounted(d),
     }
 }

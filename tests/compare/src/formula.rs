@@ -63,29 +63,61 @@ pub fn parse(mut q: &[u8], stations: usize) -> Result<Vec<Token>, Fault> {
     if q.is_empty() { Ok(tokens) } else { Err(Fault::BytesAfterFormula) }
 }
 
-/// Width and bar count as true or as false, each at most 16 at every token.
-pub fn size(f: &mut Tokens, sign: bool) -> Result<(usize, usize), Fault> {
-    let (width, bars) = match (f.take(), sign) {
-        (Range { .. }, _) => (1, 0),
+/// How large a formula is as true or as false: width and bar count, the largest bar count at any of its tokens, structures held, and
+/// the products of both widths, added up over the tokens joined as "and".
+#[derive(Clone, Copy)]
+pub struct Size {
+    pub width: usize,
+    pub bars: usize,
+    pub most: usize,
+    pub held: usize,
+    pub products: usize,
+}
+
+/// That of a range.
+const ONE: Size = Size { width: 1, bars: 0, most: 0, held: 1, products: 0 };
+
+/// Two operands joined to this width and bar count.
+fn joined(l: Size, r: Size, width: usize, bars: usize) -> Size {
+    let held = l.held.max(l.width + r.held).max(l.width + r.width + width);
+    Size { width, bars, most: bars.max(l.most).max(r.most), held, products: l.products + r.products }
+}
+
+/// One operand under possibly or always.
+fn lifted(p: Size, width: usize, bars: usize) -> Size {
+    Size { width, bars, most: bars.max(p.most), held: p.held.max(p.width + width), ..p }
+}
+
+/// The size as true or as false, width and bar count at most 16 at every token.
+pub fn size(f: &mut Tokens, sign: bool) -> Result<Size, Fault> {
+    let s = match (f.take(), sign) {
+        (Range { .. }, _) => ONE,
         (Not, _) => size(f, !sign)?,
         (And, true) | (Or, false) => {
-            let ((v, a), (w, b)) = (size(f, sign)?, size(f, sign)?);
-            (v * w, a + b)
+            let (l, r) = (size(f, sign)?, size(f, sign)?);
+            let both = joined(l, r, l.width * r.width, l.bars + r.bars);
+            Size { products: both.products + l.width * r.width, ..both }
         }
         (And, false) | (Or, true) => {
-            let ((v, a), (w, b)) = (size(f, sign)?, size(f, sign)?);
-            (v + w, a.max(b))
+            let (l, r) = (size(f, sign)?, size(f, sign)?);
+            joined(l, r, l.width + r.width, l.bars.max(r.bars))
         }
-        (Possibly, true) | (Always, false) => (size(f, sign)?.0, 0),
-        (Possibly, false) | (Always, true) => (1, size(f, !sign)?.0),
+        (Possibly, true) | (Always, false) => {
+            let p = size(f, sign)?;
+            lifted(p, p.width, 0)
+        }
+        (Possibly, false) | (Always, true) => {
+            let p = size(f, !sign)?;
+            lifted(p, 1, p.width)
+        }
     };
-    if width > 16 {
+    if s.width > 16 {
         return Err(Fault::WidthOver16);
     }
-    if bars > 16 {
+    if s.bars > 16 {
         return Err(Fault::BarsOver16);
     }
-    Ok((width, bars))
+    Ok(s)
 }
 
 pub fn ranges(f: &[Token]) -> usize {

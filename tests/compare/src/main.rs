@@ -1,11 +1,24 @@
 //! Compares the proved code with an independent implementation and a plain listing of every cut, on logs made from seeds.
 //!
 //! Usage: compare [LOGS] [SEED]      the logs of seeds SEED, SEED + 1, ...
+//!        compare forecast FILE      compares nothing: what each question of a log can cost, and its answer
 use compare::check::{compare, Case, Counts};
 use compare::fault::ALL;
+use compare::forecasts;
+use compare::guard::when_touched;
 use compare::peak::WANTED;
 use std::panic::{catch_unwind, AssertUnwindSafe};
 use std::process::ExitCode;
+use std::sync::atomic::{AtomicU64, Ordering::Relaxed};
+
+/// The seed of the log at work.
+static SEED: AtomicU64 = AtomicU64::new(0);
+
+/// Memory was touched behind what was lent.
+extern "C" fn touched(_: i32) {
+    println!("`compare 1 {}` touches memory past what is lent", SEED.load(Relaxed));
+    std::process::exit(1)
+}
 
 /// How many logs, and the first seed.
 fn asked(words: &[String]) -> Result<(u64, u64), String> {
@@ -27,7 +40,11 @@ fn asked(words: &[String]) -> Result<(u64, u64), String> {
 fn seldom(logs: u64, counts: &Counts) -> Vec<String> {
     let [no, yes] = counts.holds;
     let [none, one, several] = counts.answers;
-    let outcomes = [("accepted", counts.accepted), ("no", no), ("yes", yes), ("none listed", none), ("one listed", one), ("several listed", several)];
+    let [one_less, just] = counts.limit;
+    let outcomes = [
+        ("accepted", counts.accepted), ("no", no), ("yes", yes), ("none listed", none), ("one listed", one), ("several listed", several),
+        ("one cell less", one_less), ("just the cells", just),
+    ];
     let outcomes = outcomes.into_iter().map(|(name, n)| (name.to_string(), n, 10));
     let faults = ALL.iter().map(|f| (format!("{f:?}"), counts.faults[*f as usize], 10));
     let peaks = WANTED.iter().map(|(p, least)| (format!("{p:?} of {least}"), counts.peaks.of(*p).times, 1));
@@ -37,11 +54,12 @@ fn seldom(logs: u64, counts: &Counts) -> Vec<String> {
 }
 
 fn report(logs: u64, counts: &Counts) {
-    let Counts { calls, accepted, holds, answers, faults, peaks, zeros } = counts;
+    let Counts { calls, accepted, holds, answers, limit, faults, peaks, zeros } = counts;
     let refused: Vec<usize> = faults.chunks(16).map(|kinds| kinds.iter().sum()).collect();
     let reached: Vec<String> = WANTED.iter().map(|(p, _)| format!("{p:?} {} ({})", peaks.of(*p).most, peaks.of(*p).times)).collect();
     println!("{logs} logs, {accepted} accepted, {calls} calls, all equal");
     println!("Holds no and yes: {holds:?}; answers with no, one, several cuts: {answers:?}; refusals 1 to 14: {:?}", &refused[1..15]);
+    println!("workspaces refused for one cell less than forecast, accepted with just these cells: {limit:?}");
     println!("peaks (and how often what is wanted): {}", reached.join(", "));
     let tried: Vec<String> = zeros.figures().map(|(name, n)| format!("{name} {n}")).collect();
     println!("ranges through zero, tried {}", tried.join(", "));
@@ -50,17 +68,36 @@ fn report(logs: u64, counts: &Counts) {
     }
 }
 
+/// Prints the forecasts and answers of a file's log.
+fn foretell(file: &str) -> ExitCode {
+    match std::fs::read(file) {
+        Ok(log) => print!("{}", forecasts::all(&log)),
+        Err(why) => {
+            eprintln!("compare: {file}: {why}");
+            return ExitCode::from(2);
+        }
+    }
+    ExitCode::SUCCESS
+}
+
 fn main() -> ExitCode {
     let words: Vec<String> = std::env::args_os().skip(1).map(|w| w.to_string_lossy().into_owned()).collect();
+    if let [word, file] = &words[..] {
+        if word == "forecast" {
+            return foretell(file);
+        }
+    }
     let (logs, first) = match asked(&words) {
         Ok(asked) => asked,
         Err(why) => {
-            eprintln!("compare: {why} (usage: compare [LOGS] [SEED])");
+            eprintln!("compare: {why} (usage: compare [LOGS] [SEED], or compare forecast FILE)");
             return ExitCode::from(2);
         }
     };
     let mut counts = Counts::new();
+    when_touched(touched);
     for seed in first..first + logs {
+        SEED.store(seed, Relaxed);
         if catch_unwind(AssertUnwindSafe(|| compare(Case::new(seed), &mut counts))).is_err() {
             let Case { log, list, .. } = Case::new(seed);
             println!("`compare 1 {seed}` differs, on the log\n{}\nand the frame list\n{list:02X?}", log.escape_ascii());

@@ -1,9 +1,10 @@
-//! The four operations of document 01, over the independent implementation.
+//! The operations of document 01, as its tickets amend it, over the independent implementation.
 use crate::basis::Worker;
 use crate::fault::{Fault, Refusal};
-use crate::formula::{Token, Tokens};
+use crate::formula::{size, Token, Tokens};
 use crate::log::{entries, line, Cut, Log, LIST, LOG};
 
+/// Enough cells for any question.
 pub const WORKSPACE: usize = 65536;
 pub const BARS: usize = 8192;
 pub const LINE: usize = 273;
@@ -40,8 +41,22 @@ fn question(log: &Log, q: usize) -> Result<&[Token], Refusal> {
     log.questions.get(q).map(Vec::as_slice).ok_or(Refusal(Fault::NoSuchQuestion, 0))
 }
 
-fn room(workspace: usize, bars: usize) -> Result<(), Refusal> {
-    if workspace < WORKSPACE {
+/// Width, the largest bar count at any token, structures held, the cells these take, and a ceiling for the rounds.
+pub type Costs = [usize; 5];
+
+pub fn costs(log: &Log, f: &[Token]) -> Costs {
+    let (s, starts) = (size(&mut Tokens(f), true).expect("a question that fits"), log.events + 1);
+    [s.width, s.most, s.held, s.held * log.stations() * starts, s.products * starts * starts]
+}
+
+pub fn forecast(data: &[u8], q: usize) -> Result<Costs, Refusal> {
+    let log = Log::read(data)?;
+    Ok(costs(&log, question(&log, q)?))
+}
+
+/// Whether a workspace and a bar space of these sizes are enough.
+pub fn room([_, _, _, cells, _]: Costs, workspace: usize, bars: usize) -> Result<(), Refusal> {
+    if workspace < cells {
         return refused(Fault::Workspace);
     }
     if bars < BARS {
@@ -67,7 +82,7 @@ pub fn answer_question(log: &Log, f: &[Token]) -> Vec<u8> {
 pub fn answer(data: &[u8], q: usize, workspace: usize, bars: usize, out: &mut [u8]) -> Result<usize, Refusal> {
     let log = Log::read(data)?;
     let f = question(&log, q)?;
-    room(workspace, bars)?;
+    room(costs(&log, f), workspace, bars)?;
     if out.len() < LINE {
         return refused(Fault::Output);
     }
@@ -78,7 +93,7 @@ pub fn holds(data: &[u8], q: usize, cut: &[u8], workspace: usize, bars: usize) -
     let log = Log::read(data)?;
     let f = question(&log, q)?;
     let c = log.cut(cut).or_else(refused)?;
-    room(workspace, bars)?;
+    room(costs(&log, f), workspace, bars)?;
     let mut w = Worker::new(&log);
     Ok(w.basis(&mut Tokens(f), true).iter().any(|s| w.belongs(s, &c)))
 }

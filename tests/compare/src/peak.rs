@@ -13,6 +13,10 @@ pub enum Peak {
     Ranges,
     Width,
     BarCount,
+    Held,
+    Cells,
+    Ceiling,
+    Standing,
     Structures,
     Bars,
     RightBars,
@@ -22,10 +26,13 @@ pub enum Peak {
 }
 
 /// What each has to come to: document 01's limits and what follows from them, and rounds that pass two bytes.
+/// Structures held come to 36, by the forecast and at a time in the basis, in 36 * 8 * 128 cells. The ceiling is highest where both widths,
+/// multiplied and added up over the signs joined as "and", are 92: four two-way ors take 4 + 8 + 16, four ranges more 16 each.
 /// A start has at most 65 rounds: between its first round, which may add one event, and its last, which adds none, each adds two or more.
-pub const WANTED: [(Peak, usize); 16] = [
+pub const WANTED: [(Peak, usize); 20] = [
     (Stations, 8), (Events, 127), (StationEvents, 127), (Questions, 16), (LogBytes, 6492), (ListBytes, 3174), (Tokens, 32), (Ranges, 12),
-    (Width, 16), (BarCount, 16), (Structures, 16), (Bars, 16), (RightBars, 16), (StartRounds, 65), (Rounds, 65_536), (Listed, 16),
+    (Width, 16), (BarCount, 16), (Held, 36), (Cells, 36_864), (Ceiling, 92 * 128 * 128), (Standing, 36), (Structures, 16), (Bars, 16),
+    (RightBars, 16), (StartRounds, 65), (Rounds, 65_536), (Listed, 16),
 ];
 
 /// The largest figure met, and how often one met what is wanted.
@@ -36,7 +43,7 @@ pub struct Reach {
 }
 
 #[derive(Default)]
-pub struct Peaks([Reach; 16]);
+pub struct Peaks([Reach; WANTED.len()]);
 
 impl Peaks {
     pub fn of(&self, peak: Peak) -> Reach {

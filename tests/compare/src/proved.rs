@@ -24,6 +24,7 @@ macro_rules! library {
 library! {
     fn moment_read(log: *const u8, log_len: usize, out: *mut u8, out_len: usize) -> u64;
     fn moment_write(list: *const u8, list_len: usize, out: *mut u8, out_len: usize) -> u64;
+    fn moment_forecast(log: *const u8, log_len: usize, question: usize) -> u64;
     fn moment_answer(
         log: *const u8, log_len: usize, question: usize, ws: *mut u8, ws_len: usize, bs: *mut u8, bs_len: usize, out: *mut u8, out_len: usize
     ) -> u64;
@@ -51,6 +52,12 @@ pub fn read(log: &[u8], out: &mut [u8]) -> Reply<[usize; 4]> {
 
 pub fn write(list: &[u8], out: &mut [u8]) -> Reply<usize> {
     unpacked(unsafe { moment_write(list.as_ptr(), list.len(), out.as_mut_ptr(), out.len()) })
+}
+
+/// Width and bars take five bits each, held six, cells 17 and the ceiling 24.
+pub fn forecast(log: &[u8], question: usize) -> Reply<[usize; 5]> {
+    let reply = unsafe { moment_forecast(log.as_ptr(), log.len(), question) };
+    unpacked(reply).map(|v| [v % 32, (v >> 5) % 32, (v >> 10) % 64, (v >> 16) % (1 << 17), v >> 33])
 }
 
 pub fn answer(log: &[u8], question: usize, ws: &mut [u8], bs: &mut [u8], out: &mut [u8]) -> Reply<usize> {

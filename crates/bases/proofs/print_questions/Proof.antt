@@ -3,7 +3,7 @@ use mathlib.Core.Path.{_≡_, refl, _∙_}
 use Prim.Native.Nat.{_≤_, _-_}
 use native.Mathlib.Omega.{arith}
 use lib.ListN.{length}
-use Rattle.load.proofs.Loads.{no-larger}
+use Rattle.opening.proofs.Openings.{holding}
 use Rattle.question.proofs.Posed.{posed}
 use Rattle.opening.proofs.Logs.{question-there, question-count, good-at}
 use borrow.Author.Needs.{needs}
@@ -20,7 +20,7 @@ loop-holds : tie.Need-loop-holds Inv-loop μ-loop
 loop-holds c = (omega arith, refl, refl)
 
 asked-requires : tie.Need-asked-requires Inv-loop μ-loop
-asked-requires c κs = let p = c .before .before .before .before .before .before .before .before .before .pre in ((c .if1 .taken, p .0 .0), (_, record { limits-are = _; small = no-larger _ refl; log = _; accepts = p .1 .accepts }))
+asked-requires c κs = let p = c .before .before .before .before .before .before .before .before .before .pre in ((c .if1 .taken, p .0 .0), (_, holding (p .1 .accepts)))
 
 print-basis-requires : tie.Need-print-basis-requires Inv-loop μ-loop
 print-basis-requires c κs =

@@ -1,8 +1,8 @@
 -- `answer_one` meets its contract: the question is found and worked out over the computation that was laid out. Assumes nothing.
-use mathlib.Core.Path.{refl}
+
 use borrow.Author.Needs.{needs}
-use Rattle.load.proofs.Loads.{no-larger}
-use Rattle.question.proofs.Posed.{question, posed}
+use Rattle.opening.proofs.Openings.{holding}
+use Rattle.question.proofs.Posed.{question}
 use Rattle.opening.proofs.Logs.{below, good-at}
 use Rattle.opened.proofs.answer_one.Statement.{statement}
 use Rattle.opened.proofs.answer_one.Tie as tie
@@ -14,10 +14,10 @@ slice-aggregate-lay-2 : tie.Need-slice-aggregate-lay-2
 slice-aggregate-lay-2 c = search needs
 
 lay-requires : tie.Need-lay-requires
-lay-requires c κs = let p = c .before .before .before .before .before .before .before .pre in ((p .0 .1, search needs, search needs), (_, record { limits-are = _; small = no-larger _ refl; log = _; accepts = p .1 .1 .accepts }))
+lay-requires c κs = let p = c .before .before .before .before .before .before .before .pre in ((p .0 .1, search needs, search needs), (_, holding (p .1 .1 .accepts)))
 
 asked-requires : tie.Need-asked-requires
-asked-requires c κs = let p = c .before .before .before .before .before .before .before .before .before .before .pre in let o = p .1 .1 in ((below (o .accepts) _ (o .question) (o .is), p .0 .0), (_, record { limits-are = _; small = no-larger _ refl; log = _; accepts = o .accepts }))
+asked-requires c κs = let p = c .before .before .before .before .before .before .before .before .before .before .pre in let o = p .1 .1 in ((below (o .accepts) _ (o .question) (o .is), p .0 .0), (_, holding (o .accepts)))
 
 slice-aggregate-put-line : tie.Need-slice-aggregate-put-line
 slice-aggregate-put-line c = search needs
@@ -30,7 +30,7 @@ put-line-requires c κs =
     let p = c .before .before .before .before .before .before .before .before .before .before .before .before .before .before .before .before .pre in
     let o = p .1 .1 in
     let a = o .accepts in
-    (posed _ (o .question) (good-at a _ (o .question) (o .is)) _ (c .before .before .before .before .before .asked .ensures _ _ _ a (o .question) (o .is)) (c .before .before .before .before .before .before .before .before .lay .ensures .1 _ _ _ a) _ (p .0 .2), (p .0 .3, p .0 .4))
+    ((_, o .question, question _ (o .question) (good-at a _ (o .question) (o .is)) _ (c .before .before .before .before .before .asked .ensures _ _ _ a (o .question) (o .is)) (c .before .before .before .before .before .before .before .before .lay .ensures .1 _ _ _ a), p .1 .2), (p .0 .2, p .0 .3))
 
 same-length : tie.Need-same-length
 same-length c = search needs

@@ -5,7 +5,7 @@ use Prim.Native.Nat.{_+_, _*_, _-_, _≤_}
 use native.Mathlib.Omega.{arith}
 use lib.ListN.{length, length-take, length-drop}
 use borrow.Rule.Slice.PartMut.{same-len-mid}
-use Rattle.load.proofs.Loads.{no-larger}
+use Rattle.opening.proofs.Openings.{holding}
 use Rattle.question.proofs.Posed.{posed}
 use Rattle.opening.proofs.Logs.{question-there, question-count, good-at}
 use Rattle.opened.proofs.Lines.{Printing, printing-none, printing-more, printing-all, line-short}
@@ -23,7 +23,7 @@ loop-holds : tie.Need-loop-holds Inv-loop μ-loop
 loop-holds c = (omega arith, omega arith, refl, refl, refl, printing-none _ _ _ _ _ _)
 
 asked-requires : tie.Need-asked-requires Inv-loop μ-loop
-asked-requires c κs = let p = c .before .before .before .before .before .before .before .before .pre in ((c .if1 .taken, p .0 .0), (_, record { limits-are = _; small = no-larger _ refl; log = _; accepts = p .1 .accepts }))
+asked-requires c κs = let p = c .before .before .before .before .before .before .before .before .pre in ((c .if1 .taken, p .0 .0), (_, holding (p .1 .accepts)))
 
 slice-aggregate-put-line : tie.Need-slice-aggregate-put-line Inv-loop μ-loop
 slice-aggregate-put-line c = sym (c .before .before .before .before .loop .inv .2)

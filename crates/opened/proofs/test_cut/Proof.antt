@@ -1,8 +1,8 @@
 -- `test_cut` meets its contract: the question is found and worked out over the computation that was laid out. Assumes nothing.
-use mathlib.Core.Path.{refl, sym, _∙_}
+use mathlib.Core.Path.{sym, _∙_}
 use borrow.Author.Needs.{needs}
-use Rattle.load.proofs.Loads.{no-larger}
-use Rattle.question.proofs.Posed.{question, posed}
+use Rattle.opening.proofs.Openings.{holding}
+use Rattle.question.proofs.Posed.{question}
 use Rattle.opening.proofs.Logs.{below, good-at}
 use Rattle.opened.proofs.test_cut.Statement.{statement}
 use Rattle.opened.proofs.test_cut.Tie as tie
@@ -14,10 +14,10 @@ slice-aggregate-lay-2 : tie.Need-slice-aggregate-lay-2
 slice-aggregate-lay-2 c = search needs
 
 lay-requires : tie.Need-lay-requires
-lay-requires c κs = let p = c .before .before .before .before .before .before .before .pre in ((p .0 .1, search needs, search needs), (_, record { limits-are = _; small = no-larger _ refl; log = _; accepts = p .1 .1 .accepts }))
+lay-requires c κs = let p = c .before .before .before .before .before .before .before .pre in ((p .0 .1, search needs, search needs), (_, holding (p .1 .1 .accepts)))
 
 asked-requires : tie.Need-asked-requires
-asked-requires c κs = let p = c .before .before .before .before .before .before .before .before .before .before .pre in let o = p .1 .1 in ((below (o .accepts) _ (o .question) (o .is), p .0 .0), (_, record { limits-are = _; small = no-larger _ refl; log = _; accepts = o .accepts }))
+asked-requires c κs = let p = c .before .before .before .before .before .before .before .before .before .before .pre in let o = p .1 .1 in ((below (o .accepts) _ (o .question) (o .is), p .0 .0), (_, holding (o .accepts)))
 
 slice-aggregate-true-at : tie.Need-slice-aggregate-true-at
 slice-aggregate-true-at c = search needs
@@ -31,7 +31,7 @@ true-at-requires c κs =
     let o = p .1 .1 in
     let a = o .accepts in
     let l = c .before .before .before .before .before .before .before .lay .ensures in
-    (posed _ (o .question) (good-at a _ (o .question) (o .is)) _ (c .before .before .before .before .asked .ensures _ _ _ a (o .question) (o .is)) (l .1 _ _ _ a) _ (p .0 .3), (p .0 .2 ∙ sym (l .0), p .0 .4))
+    ((_, o .question, question _ (o .question) (good-at a _ (o .question) (o .is)) _ (c .before .before .before .before .asked .ensures _ _ _ a (o .question) (o .is)) (l .1 _ _ _ a), p .1 .2), (p .0 .2 ∙ sym (l .0), p .0 .3))
 
 same-length : tie.Need-same-length
 same-length c = search needs

@@ -35,17 +35,17 @@ returns-4 c = judged-tokens (size (c .before .before .before .before .before .be
 returns-5 : tie.Need-returns-5
 returns-5 c = judged-atoms (size (c .before .before .before .before .before .before .before .before)) (c .before .before .before .before .before .before .if1 .left) (not-false _ (c .before .before .before .before .if2 .left)) (c .before .before .if3 .left) (c .if4 .taken)
 
+enum-known-e : tie.Need-enum-known-e
+enum-known-e c = search needs
+
 enum-told-2 : tie.Need-enum-told-2
 enum-told-2 c = search needs
 
-enum-told-3 : tie.Need-enum-told-3
-enum-told-3 c = search needs
-
 returns-6 : tie.Need-returns-6
-returns-6 c = judged-wide (size (c .before .before .before .before .before .before .before .before .before .before)) (c .before .before .before .before .before .before .before .before .if1 .left) (not-false _ (c .before .before .before .before .before .before .if2 .left)) (c .before .before .before .before .if3 .left) (c .before .before .if4 .left) (c .enum-told3 .given .1)
+returns-6 c = judged-wide (size (c .before .before .before .before .before .before .before .before .before .before)) (c .before .before .before .before .before .before .before .before .if1 .left) (not-false _ (c .before .before .before .before .before .before .if2 .left)) (c .before .before .before .before .if3 .left) (c .before .before .if4 .left) (c .enum-told2 .given .1)
 
 returns-7 : tie.Need-returns-7
-returns-7 c = judged-fine (size (c .before .before .before .before .before .before .before .before .before .before)) (c .before .before .before .before .before .before .before .before .if1 .left) (not-false _ (c .before .before .before .before .before .before .if2 .left)) _ _ (c .before .before .before .before .if3 .left) (c .before .before .if4 .left) (c .enum-told2 .given .1)
+returns-7 c = judged-fine (size (c .before .before .before .before .before .before .before .before .before .before .before)) (c .before .before .before .before .before .before .before .before .before .if1 .left) (not-false _ (c .before .before .before .before .before .before .before .if2 .left)) _ (c .before .before .before .before .before .if3 .left) (c .before .before .before .if4 .left) (c .before .e .given .1)
 
 pub judge-spec : {M : Type 1} → statement M
 judge-spec =
@@ -59,7 +59,7 @@ judge-spec =
     returns-3
     returns-4
     returns-5
+    enum-known-e
     enum-told-2
-    enum-told-3
     returns-6
     returns-7)

@@ -14,7 +14,7 @@ returns : tie.Need-returns
 returns c = λ n q x. nothing-modal (c .before .before .args .t) (c .before .before .pre .1 .0) (c .before .before .pre .1 .1) q (rw (c .enum-told .given .1) at x)
 
 lift-requires : tie.Need-lift-requires
-lift-requires c κs = search needs
+lift-requires c κs = (rw (c .before .p .given .1) at (c .before .before .before .pre .0)) .extent
 
 longer-requires : tie.Need-longer-requires
 longer-requires c κs = rw (c .before .before .p .given .1) at (c .before .before .before .before .pre .0)

@@ -27,13 +27,13 @@ faulty-requires-2 : tie.Need-faulty-requires-2
 faulty-requires-2 c κs = search needs
 
 returns : tie.Need-returns
-returns c = let p = c .before .before .before .before .pre in λ t. rw (c .with-question .ensures) (question-next t (p .0) (p .1 .0 .0) (p .1 .0 .1) (p .1 .0 .2) (p .1 .0 .4) (sym (ap faultOf (c .before .enum-told .given .1)) ∙ p .1 .1))
+returns c = let p = c .before .before .before .before .pre in λ t. rw (c .with-question .ensures) (question-next t (p .0) (p .1 .0 .0) (p .1 .0 .1) (p .1 .0 .2) (p .1 .0 .4) (ap faultOf (sym (c .before .enum-told .given .1) ∙ p .1 .1)))
 
 returns-2 : tie.Need-returns-2
-returns-2 c = let p = c .before .before .before .before .pre in λ t. turned Formula _ (c .faulty .ensures) (p .0) (λ r h. wrong _ (record { holds = h; some-bytes = p .1 .0 .0; kind = p .1 .0 .1 }) (p .1 .0 .2) (p .1 .0 .4) 8 (sym (ap faultOf (c .before .enum-told2 .given .1)) ∙ p .1 .1))
+returns-2 c = let p = c .before .before .before .before .pre in λ t. turned Formula _ (c .faulty .ensures) (p .0) (λ r h. wrong _ (record { holds = h; some-bytes = p .1 .0 .0; kind = p .1 .0 .1 }) (p .1 .0 .2) (p .1 .0 .4) 8 (ap faultOf (sym (c .before .enum-told2 .given .1) ∙ p .1 .1)))
 
 returns-3 : tie.Need-returns-3
-returns-3 c = let p = c .before .before .before .before .pre in λ t. turned Size _ (c .faulty2 .ensures) (p .0) (λ r h. wrong _ (record { holds = h; some-bytes = p .1 .0 .0; kind = p .1 .0 .1 }) (p .1 .0 .2) (p .1 .0 .4) 9 (sym (ap faultOf (c .before .enum-told3 .given .1)) ∙ p .1 .1))
+returns-3 c = let p = c .before .before .before .before .pre in λ t. turned Size _ (c .faulty2 .ensures) (p .0) (λ r h. wrong _ (record { holds = h; some-bytes = p .1 .0 .0; kind = p .1 .0 .1 }) (p .1 .0 .2) (p .1 .0 .4) 9 (ap faultOf (sym (c .before .enum-told3 .given .1) ∙ p .1 .1)))
 
 pub rule-spec : {M : Type 1} → statement M
 rule-spec =
