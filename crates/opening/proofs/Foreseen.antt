@@ -23,7 +23,8 @@ use Rattle.extents.specs.Extents.{figuresOf}
 use Rattle.extents.proofs.Extents.{ceiling-pairs}
 use Rattle.frame.specs.declared.State.{State}
 use Rattle.load.specs.Loading.{Accepts}
-use Rattle.opening.proofs.Logs.{bounded-within, good-at}
+use Rattle.frame.proofs.Steps.{bounded-up}
+use Rattle.opening.proofs.Logs.{good-at}
 
 -- As the code counts: n stations, and e + 1 starts.
 abbrev pub costs : Figures → ℕ → ℕ → Forecast
@@ -50,5 +51,5 @@ module _ {m : Limits} {log : List ℕ} {s : State} {k : ℕ} {list t : List ℕ}
   -- Its numbers are small.
   pub foreseen-low : NoLarger m limits → (g : Figures) → g ≡ figuresOf (asTrue f) → Low (costs g (s .stations) (s .events))
   foreseen-low fit g e =
-      let b = bounded-within fit (a .bounded) in
+      let b = bounded-up fit (a .bounded) in
       rw (foreseen g e) (forecast-low K f (good-at a q f is .1) (omega (arith, a .holds .stored .size, b .few-stations)) (omega (arith, a .holds .events, b .few-events)))

@@ -5,7 +5,6 @@ use mathlib.Core.List.{List, [], _∷_}
 use mathlib.Core.Option.{none, some}
 use Prim.Native.Nat.{ℕ, zero, suc, _+_, _≤_, _<_}
 use native.Mathlib.Omega.{arith}
-use native.Mathlib.Nat.{le-trans}
 use lib.ListN.{length, take, getD, getElem?, length-map, List·getD-map}
 use lib.Seq.{ext-getD, getD-take, length-take-le}
 use Rattle.model.specs.declared.Limits.{Limits}
@@ -25,7 +24,8 @@ use Rattle.codec.proofs.Lawful.{Lawful}
 use Rattle.codec.proofs.QuestionFrames.{questionFrames, question-spelt}
 use Rattle.codec.proofs.Readings.{log-are-frames}
 use Rattle.frame.specs.declared.State.{State}
-use Rattle.frame.specs.State.{firstQuestion, Bounded}
+use Rattle.frame.specs.State.{firstQuestion}
+use Rattle.frame.proofs.Steps.{bounded-up}
 use Rattle.load.specs.Loading.{Accepts}
 use Rattle.load.proofs.Questions.{good, question-frame}
 use Rattle.layout.specs.StoredValid.{StoredValid}
@@ -48,16 +48,6 @@ question-below [] q f e = let z : _≡_ {A = ℕ} 0 1 = cc in absurd (omega arit
 question-below (g ∷ l) zero f e = omega arith
 question-below (g ∷ l) (suc q) f e = omega (arith, question-below l q f e)
 
--- A state within limits is one within larger limits.
-pub bounded-within : {m : Limits} {s : State} → NoLarger m limits → Bounded m s → Bounded limits s
-bounded-within fit b = record {
-  few-stations = le-trans (b .few-stations) (fit .stations);
-  few-events = le-trans (b .few-events) (fit .events);
-  few-questions = le-trans (b .few-questions) (fit .questions);
-  eight = b .eight;
-  each = b .each;
-}
-
 module _ {m : Limits} {log : List ℕ} {s : State} {k : ℕ} {list t : List ℕ} (a : Accepts m log s k list t) where
   law : Lawful m (a .reading)
   law = good a .lawful
@@ -73,7 +63,7 @@ module _ {m : Limits} {log : List ℕ} {s : State} {k : ℕ} {list t : List ℕ}
   pub counts-total : NoLarger m limits → total (take (s .stations) (s .counts)) ≡ s .events
   counts-total fit =
       let K = a .reading .computation in
-      let b = bounded-within fit (a .bounded) in
+      let b = bounded-up fit (a .bounded) in
       let x : length (take (s .stations) (s .counts)) ≡ s .stations = length-take-le (s .stations) (s .counts) (omega (arith, b .eight, b .few-stations)) in
       let y : length (full K) ≡ s .stations = length-map (K .events) length ∙ a .holds .sizes ∙ a .holds .stored .size in
       let z : take (s .stations) (s .counts) ≡ full K = ext-getD 0 (take (s .stations) (s .counts)) (full K) (x ∙ sym y) (λ i h.

@@ -8,7 +8,8 @@ use lib.ListN.{length, getElem?}
 use borrow.Author.Needs.{needs}
 use Rattle.model.specs.Formula.{Formula}
 use Rattle.lattice.proofs.Forecast.{Low}
-use Rattle.opening.proofs.Logs.{bounded-within, question-count, question-there, good-at}
+use Rattle.frame.proofs.Steps.{bounded-up}
+use Rattle.opening.proofs.Logs.{question-count, question-there, good-at}
 use Rattle.opening.proofs.Foreseen.{costs, few-bytes, sound-here, foreseen, foreseen-low}
 use Rattle.opening.proofs.foresee.Statement.{statement}
 use Rattle.opening.proofs.foresee.Tie as tie
@@ -30,7 +31,7 @@ low c =
 few : (c : tie.After-figures) → (c .before .before .before .before .args .loaded .state .stations ≤ 8) × (c .before .before .before .before .args .loaded .state .events + 1 ≤ 255)
 few c =
     let h = c .before .before .before .before .pre .1 .1 in
-    let b = bounded-within (h .small) (h .accepts .bounded) in
+    let b = bounded-up (h .small) (h .accepts .bounded) in
     (omega (arith, b .few-stations), omega (arith, b .few-events))
 
 asked-requires : tie.Need-asked-requires

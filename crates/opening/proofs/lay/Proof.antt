@@ -1,6 +1,7 @@
 -- `lay` meets its contract: a loaded log has what laying out asks for. Assumes nothing.
 use borrow.Author.Needs.{needs}
-use Rattle.opening.proofs.Logs.{bounded-within, loaded, counts-total}
+use Rattle.frame.proofs.Steps.{bounded-up}
+use Rattle.opening.proofs.Logs.{loaded, counts-total}
 use Rattle.opening.proofs.lay.Statement.{statement}
 use Rattle.opening.proofs.lay.Tie as tie
 
@@ -8,7 +9,7 @@ lay-requires : tie.Need-lay-requires
 lay-requires c κs =
     let p = c .before .before .before .before .before .before .before .pre in
     let h = p .1 .1 in
-    let b = bounded-within (h .small) (h .accepts .bounded) in
+    let b = bounded-up (h .small) (h .accepts .bounded) in
     ((h .accepts .some-stations, b .few-stations, p .0 .0, p .0 .1, p .0 .2), (b .eight, counts-total (h .accepts) (h .small), b .few-events))
 
 same-length : tie.Need-same-length
