@@ -7,18 +7,15 @@ use opened::answer_one;
 use opening::cramped;
 use opening::open_log;
 ghost use mathlib.Core.Path.{_≡_};
-ghost use mathlib.Core.List.{List, [], _∷_};
-ghost use Prim.Native.Nat.{ℕ, _≤_, _<_};
+ghost use mathlib.Core.List.{[], _∷_};
+ghost use Prim.Native.Nat.{ℕ, _<_};
 ghost use lib.ListN.{length, take};
-ghost use Rattle.model.specs.Limits.{limits, storeSize, barspaceSize, lineSize};
+ghost use Rattle.model.specs.Limits.{limits};
 ghost use Rattle.model.specs.Formula.{Formula};
 ghost use Rattle.model.specs.Computation.{Computation};
-ghost use Rattle.model.specs.Answer.{answer, answerLine};
 ghost use Rattle.model.specs.Reply.{gives, refuses, number, lineReply};
 ghost use Rattle.model.specs.Operations.{Kept, answerOp};
 ghost use Rattle.model.specs.Promise.{Asked, Answered};
-ghost use Rattle.line.specs.AtFront.{AtFront};
-ghost use Rattle.opening.specs.Opening.{Poses};
 
 // A refusal where no one line is at fault.
 fn refused(fault: Fault) -> LineAnswer

@@ -7,18 +7,15 @@ use opened::test_cut;
 use opening::cramped;
 use opening::open_log;
 ghost use mathlib.Core.Path.{_≡_};
-ghost use mathlib.Core.List.{List, [], _∷_};
-ghost use Prim.Native.Nat.{ℕ, _≤_};
+ghost use Prim.Native.Nat.{_≤_};
 ghost use lib.ListN.{length};
-ghost use Rattle.model.specs.Limits.{limits, storeSize, barspaceSize};
+ghost use Rattle.model.specs.Limits.{limits, barspaceSize};
 ghost use Rattle.model.specs.Formula.{Formula};
 ghost use Rattle.model.specs.Computation.{Computation, Consistent};
 ghost use Rattle.model.specs.Forecast.{forecast};
-ghost use Rattle.model.specs.Answer.{trueAt, yesNo};
-ghost use Rattle.model.specs.Reply.{gives, refuses, number, holdsReply};
+ghost use Rattle.model.specs.Reply.{refuses, number, holdsReply};
 ghost use Rattle.model.specs.Operations.{Kept, holdsOp};
 ghost use Rattle.model.specs.Promise.{Asked, Tested};
-ghost use Rattle.opening.specs.Opening.{Poses};
 
 // A refusal where no one line is at fault.
 fn refused(fault: Fault) -> HoldsAnswer
@@ -29,17 +26,6 @@ fn refused(fault: Fault) -> HoldsAnswer
         line: 0,
     };
     HoldsAnswer::Refused(refusal)
-}
-
-// What Holds says of a cut.
-fn told(yes: bool) -> HoldsAnswer
-    ensures { λ r. ⌜ holdsReply r ≡ gives (yesNo yes ∷ []) ⌝ }
-{
-    if yes {
-        HoldsAnswer::Yes
-    } else {
-        HoldsAnswer::No
-    }
 }
 
 // Holds: whether a question of a log is true at a cut.
@@ -66,7 +52,7 @@ pub fn holds(log: &[u8], question: usize, cut: &[u8], ws: &mut [u8], bs: &mut [u
                 return refused(Fault::Workspace);
             }
             let yes = test_cut(&list, &store, loaded, question, cut, ws, bs);
-            told(yes)
+            HoldsAnswer::told(yes)
         }
     }
 }

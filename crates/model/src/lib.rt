@@ -1,8 +1,10 @@
 // A log's limits, and the answers that the operations hand back.
 ghost use mathlib.Core.Path.{_≡_};
+ghost use mathlib.Core.List.{[], _∷_};
 ghost use lib.ListN.{replicate};
 ghost use Rattle.model.specs.Limits.{limits};
-ghost use Rattle.model.specs.Reply.{number};
+ghost use Rattle.model.specs.Answer.{yesNo};
+ghost use Rattle.model.specs.Reply.{gives, number, holdsReply};
 
 // The limits of a log, as one value.
 pub struct Limits {
@@ -171,4 +173,17 @@ pub enum HoldsAnswer {
     Yes,
     No,
     Refused(Refusal),
+}
+
+impl HoldsAnswer {
+    // What is said of a cut.
+    pub fn told(yes: bool) -> HoldsAnswer
+        ensures { λ r. ⌜ holdsReply r ≡ gives (yesNo yes ∷ []) ⌝ }
+    {
+        if yes {
+            HoldsAnswer::Yes
+        } else {
+            HoldsAnswer::No
+        }
+    }
 }

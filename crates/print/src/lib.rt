@@ -5,10 +5,8 @@ ghost use mathlib.Core.Path.{_≡_};
 ghost use mathlib.Core.List.{List, _++_};
 ghost use Prim.Native.Nat.{ℕ, _≤_};
 ghost use lib.ListN.{length, take, drop};
-ghost use Rattle.model.specs.Limits.{printLimits, storeSize, printedSize};
-ghost use Rattle.model.specs.Operations.{answerLines, printed};
-ghost use Rattle.line.specs.AtFront.{AtFront};
-ghost use Rattle.load.specs.Loading.{Accepts};
+ghost use Rattle.model.specs.Limits.{printLimits};
+ghost use Rattle.model.specs.Operations.{printed};
 
 // What the program asks for: one byte more than a log may have, so that it sees a log that is too long.
 pub const INPUT: usize = Log::BYTES + 1;
