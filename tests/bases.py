@@ -5,13 +5,12 @@ it, never as rows, so that no code or shape is shared with the product. Where th
 """
 import sys
 from functools import cache
-from math import prod
 
-from bench_cases import ALL, ZERO, ladder
+from bench_cases import ALL, ZERO, chain, ladder
 from frames import Draw, atom, case, computation, formula, log_of
-from listing import Listing, Refused, Walk, admit, contained, read, within
+from listing import OPERATIONS, PROGRAM, Listing, Refused, Walk, admit, answer_line, answers, contained, cuts, read, within
 
-LISTED = 1500
+LISTED = 500
 
 
 def join(c, d):
@@ -23,6 +22,9 @@ class Structure:
 
     def __init__(self, raised, least, top, bars):
         self.raised, self.least, self.top, self.bars = raised, least, top, bars
+
+    def has(self, c):
+        return self.raised(c) == c and not any(contained(c, b) for b in self.bars)
 
 
 class Rule(Walk):
@@ -64,23 +66,36 @@ class Rule(Walk):
         basis = self.basis(f, True)
         return [(s.least, s.top, s.bars) for s in basis], self.rounds
 
-
-def few(log):
-    """Are the cuts few enough to list?"""
-    return prod(len(events) + 1 for events in log.history) <= LISTED
+    def answer(self, f):
+        """Start, the maximal cuts in order, rounds."""
+        self.rounds = 0
+        basis = self.basis(f, True)
+        tops = {s.top for s in basis}
+        listed = sorted(c for c in tops if not any(c != d and contained(c, d) for d in tops))
+        return any(s.has(self.empty) for s in basis), listed, self.rounds
 
 
 def listed(log, f):
-    """The same by a plain listing."""
+    """The structures and rounds of a question by a plain listing."""
     listing = Listing(log)
     basis = listing.basis(f, True)
-    return [(listing.raised(cuts, listing.empty), top, bars) for cuts, bars, top in basis], listing.rounds
+    return [(raised(listing.empty), top, bars) for _, bars, top, raised in basis], listing.rounds
+
+
+def few(log):
+    """Are the cuts few enough to list?"""
+    return cuts(log, LISTED) is not None
+
+
+def answered(log):
+    """The answer line of each question, by a plain listing where the cuts are few, else by the rule."""
+    return answers(log) if few(log) else [answer_line(*Rule(log).answer(f)) for f in log.questions]
 
 
 def printed(data):
     """What is printed for a log."""
     try:
-        log = read(data)
+        log = read(data, PROGRAM)
     except Refused as r:
         return f" refused {r.number} {r.line}\n"
     rule, lines = Rule(log), []
@@ -145,11 +160,15 @@ def question(d, log):
         return q
 
 
+def questioned(d, frames, questions):
+    """The log of header and events, with questions."""
+    log = read(log_of(frames), OPERATIONS)
+    return log_of(frames + [[0x30] + question(d, log) for _ in range(questions)])
+
+
 def drawn(d, n, events, questions):
     """A computation of n stations with messages between them, and questions."""
-    frames, _ = computation(d, n, events, 8, 2)
-    log = read(log_of(frames))
-    return log_of(frames + [[0x30] + question(d, log) for _ in range(questions)])
+    return questioned(d, computation(d, n, events, 8, 2)[0], questions)
 
 
 def logs(seed):
@@ -162,6 +181,7 @@ def logs(seed):
     for n, events in ((1, 0), (2, 7), (3, 15), (4, 16), (5, 12), (2, 127), (4, 60), (6, 100), (7, 120), (8, 40), (8, 127), (8, 127)):
         yield drawn(d, n, events, 16)
     yield b"\n"
+    yield chain(PROGRAM.events + 1)
 
 
 def cases(seed):

@@ -1,6 +1,6 @@
 """The cases of document 01's bench section and limits for Forecast, Answer, Holds and the program, and what is to come of each."""
 from frames import ONE, WORKSPACE, atom, case, in_turn, log_of
-from listing import Listing, Refused, answer_line, encode, forecast, printed, read
+from listing import OPERATIONS, Listing, Refused, answer_line, encode, forecast, printed, read
 
 Q = [3] + atom(0, 5, 5) + atom(1, 1, 1)
 QUESTIONS = [
@@ -69,7 +69,7 @@ def deep(stations, k):
 
 def asked(data, q):
     """The log, and its question of a number."""
-    log = read(data)
+    log = read(data, OPERATIONS)
     if q >= len(log.questions):
         raise Refused(10)
     return log, log.questions[q]
@@ -124,8 +124,9 @@ def about(data, q):
     return cells - 1, cells, cells + 1
 
 
-LOGS = (BENCH, ALL, ZERO, HEAD, b"", b"\n", WIDE18, chain(127), chain(128), chain(0), HEADER, b"0" * 8193, ladder(3, 24), ladder(2, 40))
-REFUSED = (BENCH[:-1], b"", BENCH.lower(), WIDE18, chain(128))
+LOGS = (BENCH, ALL, ZERO, HEAD, b"", b"\n", WIDE18, chain(127), chain(128), chain(0), HEADER, b"0" * 8193, ladder(3, 24), ladder(2, 40),
+        chain(254), chain(255))
+REFUSED = (BENCH[:-1], b"", BENCH.lower(), WIDE18, chain(255))
 
 
 def forecasts():
@@ -135,12 +136,12 @@ def forecasts():
             yield foretells(data, q)
             if "refused" in foretold(data, q):
                 break
-    for data in (ALL, *REFUSED):
+    for data in (ALL, *REFUSED, chain(128)):
         yield foretells(data, 255)
 
 
 def rooms():
-    """Answer and Holds lent the cells that are forecast, one less and one more, or none; and a bar space one cell short."""
+    """Answer and Holds lent the cells that are forecast, one less and one more, none, or 65,535 of more; and a bar space one cell short."""
     for f in QUESTIONS + THROUGH_ZERO:
         data = HEAD + encode([0x30] + f)
         for cells in about(data, 0):
@@ -155,13 +156,15 @@ def rooms():
             for cut in [(1, 1), (1, 0), (0, 2), (1,), (2, 0)]:
                 yield holds(BENCH, 0, cut, cells, short)
                 yield holds(BENCH, 7, cut, cells, short)
-    for data in REFUSED:
+    for data in (*REFUSED, chain(128)):
         yield answer(data, 0, 0, 1, 0)
         yield holds(data, 0, (9,), 0, 1)
-    for data in (chain(0), chain(127), deep(1, 0), deep(1, 127), deep(2, 40), deep(3, 24)):
+    for data in (chain(0), chain(127), chain(254), deep(1, 0), deep(1, 127), deep(2, 40), deep(3, 24)):
         for cells in about(data, 0):
             yield answer(data, 0, cells)
     yield answer(deep(8, 127), 0, about(deep(8, 127), 0)[0])
+    yield answer(deep(8, 254), 0)
+    yield holds(deep(8, 254), 0, [0] * 8)
 
 
 def cases():

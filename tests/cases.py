@@ -10,6 +10,7 @@ import sys
 import bases
 import bench_cases
 import corpus
+import large
 import read_write
 import walks
 
@@ -19,7 +20,7 @@ SEED = 20261115
 def main():
     folder = pathlib.Path(sys.argv[1])
     seed = int(sys.argv[2]) if len(sys.argv) > 2 else SEED
-    made = [*corpus.cases(seed), *bench_cases.cases(), *bases.cases(seed), *read_write.cases(), *walks.cases(seed)]
+    made = [*corpus.cases(seed), *bench_cases.cases(), *bases.cases(seed), *read_write.cases(), *walks.cases(seed), *large.cases(seed)]
     (folder / "stdin").write_bytes(b"".join(case for case, _ in made))
     (folder / "stdout").write_bytes(b"".join(printed for _, printed in made))
 

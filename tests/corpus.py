@@ -2,15 +2,17 @@
 
 Logs have 1 to 4 stations, up to 8 events and questions nested up to 5 deep; about two in five are damaged in a way that document 01
 names. Some more meet its limits: 16 cuts, structures and bars, over 65,535 rounds, 65 rounds a start, 0 and 9 stations; and some ask
-about ranges through zero.
+about ranges through zero. The last are about the most events and bytes.
 """
 from itertools import count, islice
 
+import large
+from bases import answered
 from bench_cases import foretold
 from frames import ONE, Draw, atom, case, computation, drawn_atom, formula, log_of, word
-from listing import encode, printed
+from listing import OPERATIONS, PROGRAM, Refused, encode, printed, read
 
-LOGS, EDGES, ENDS, ZERO = 4800, 80, 12, 200
+SMALL, EDGES, ENDS, ZERO = 4800, 80, 12, 200
 
 
 def moments(d, seen):
@@ -165,11 +167,11 @@ def apart(d, kind):
     return out + [[0x30] + sixteen(d, kind)]
 
 
-def turns(d):
-    """A station that changes sides with each of 127 events, and a question about both: each of 16 pairs takes over 4,000 rounds."""
+def turns(d, events):
+    """A station that changes sides with each event, and a question about both: with 127 each of 16 pairs takes over 4,000 rounds."""
     step, last = d.pick([1, 255, 21845]), 1 + d.below(2)
     side = lambda v: atom(0, v * step, v * step + step)
-    values = [k % 2 * 2 * step for k in range(127)] + [last * step]
+    values = [k % 2 * 2 * step for k in range(events)] + [last * step]
     out = [ONE] + [[0x20, 0] + word(v) + [k] for k, v in enumerate(values) if k > 0]
     q = [3] + joined(d, 4, [side(0)] * 4) + joined(d, 4, [side(1)] * 4)
     for _ in range(d.below(5)):
@@ -185,7 +187,7 @@ def miscounted(d, n):
 def ends(d):
     """Logs at the upper ends of document 01's limits."""
     for _ in range(ENDS):
-        for fs in [apart(d, 0), apart(d, 1), apart(d, 2), turns(d), miscounted(d, 0), miscounted(d, 9)]:
+        for fs in [apart(d, 0), apart(d, 1), apart(d, 2), turns(d, PROGRAM.events), miscounted(d, 0), miscounted(d, 9)]:
             yield log_of(fs)
 
 
@@ -213,7 +215,7 @@ def logs(seed):
     yield b"\n"
     yield b"0" * 8192 + b"\n"
     yield encode(ONE) * 3
-    for _ in range(LOGS - 5 - 3 * EDGES - 6 * ENDS - ZERO):
+    for _ in range(SMALL - 5 - 3 * EDGES - 6 * ENDS - ZERO):
         fs, way = frames(d), d.below(10)
         if way < 3:
             fs = damaged(d, fs)
@@ -222,13 +224,18 @@ def logs(seed):
     yield from edges(d)
     yield from ends(d)
     yield from islice(through_zero(d), ZERO)
+    yield from large.logs(d)
+    yield log_of(turns(d, OPERATIONS.events))
     yield encode(ONE)[:-1]
 
 
 def each(data):
     """What the program prints, then of each question its forecast, and Answer lent one cell less than that and lent just these cells."""
-    shown = printed(data)
-    answers = shown.splitlines(keepends=True)
+    try:
+        answers = answered(read(data, OPERATIONS))
+    except Refused:
+        answers = []
+    shown = printed(data, lambda log: answers)
     for q in count():
         told = foretold(data, q)
         shown += told.encode()

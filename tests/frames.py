@@ -1,5 +1,6 @@
 """What the tests' logs and cases are made of: bytes of formulas and frames, given or drawn, and the form of a case of crates/cases."""
 import re
+import sys
 
 from listing import encode
 
@@ -25,6 +26,33 @@ def in_turn(n, k, value):
         clock[i % n] += 1
         events.append([0x20, i % n] + word(value(i)) + clock)
     return events
+
+
+def long_question(size):
+    """A question's frame of so many bytes, 7 to 95: "or" over at most 12 tokens 01, under "not" again and again."""
+    k = min(size // 7, 12)
+    return [0x30] + [2] * (size - 7 * k) + [4] * (k - 1) + [b for j in range(k) for b in atom(j % 8, j % 3, 3)]
+
+
+def line(length):
+    """A line of so many bytes, an odd number from 17 to 201, that is in order but for its formula's size: "not" again and again, then 01."""
+    return encode([0x30] + [2] * ((length - 1) // 2 - 8) + atom(0, 0, 1))
+
+
+def padded(data, length):
+    """The log with further lines in order, up to a length."""
+    left = length - len(data)
+    while left > 201:
+        data += line(101)
+        left -= 101
+    return exactly(length, data + (line(left) if left % 2 else line(51) + line(left - 51)))
+
+
+def exactly(length, data):
+    """Bytes that are to be so many."""
+    if len(data) != length:
+        sys.exit(f"{len(data)} bytes in place of {length}")
+    return data
 
 
 # CASES

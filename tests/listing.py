@@ -4,10 +4,13 @@ the product.
 A log is read with the refusals of document 01 in its order. A set of cuts is the list of its cuts, so raising a cut is a search
 through that list; rounds are counted over such sets. What a question can cost is worked out from its formula alone.
 """
+from collections import namedtuple
 from functools import cache
-from itertools import product
+from operator import le
 
-STATIONS, EVENTS, QUESTIONS, LOG, LIST = 8, 127, 16, 8192, 4096
+STATIONS, QUESTIONS, LIST = 8, 16, 8192
+Limits = namedtuple("Limits", "events log")  # the most events, and the most bytes of a log
+OPERATIONS, PROGRAM = Limits(254, 16384), Limits(127, 8192)
 DIGITS = b"0123456789ABCDEF"
 
 
@@ -23,10 +26,10 @@ def encode(frame):
 
 
 class Log:
-    """What has been read so far."""
+    """What has been read so far, and by which limits."""
 
-    def __init__(self):
-        self.initial, self.history, self.questions, self.frames = None, [], [], []
+    def __init__(self, limits):
+        self.limits, self.initial, self.history, self.questions, self.frames = limits, None, [], [], []
 
     def events(self):
         return sum(map(len, self.history))
@@ -39,7 +42,23 @@ class Log:
 
 
 def contained(c, d):
-    return all(x <= y for x, y in zip(c, d))
+    return all(map(le, c, d))
+
+
+def consistent(log, c):
+    """Is a cut consistent? Of a cut of the first stations alone: as far as it goes."""
+    return all(k <= len(log.history[j]) and contained(log.clock(j, k), c) for j, k in enumerate(c))
+
+
+def cuts(log, most=float("inf")):
+    """All consistent cuts in order, or None where there are more than so many. One of the first stations alone begins one of all."""
+    found = [()]
+    for events in log.history:
+        longer = ((*c, k) for c in found for k in range(len(events) + 1))
+        found = [c for c in longer if consistent(log, c)]
+        if len(found) > most:
+            return None
+    return found
 
 
 def within(lo, hi, v):
@@ -150,7 +169,7 @@ def admit(log, f):
         log.initial = [body[1 + 2 * i] * 256 + body[2 + 2 * i] for i in range(body[0])]
         log.history = [[] for _ in log.initial]
     elif kind == 0x20:
-        if log.initial is None or log.questions or log.events() >= EVENTS:
+        if log.initial is None or log.questions or log.events() >= log.limits.events:
             raise Refused(4)
         if len(body) != 3 + n or body[0] >= n:
             raise Refused(6)
@@ -206,9 +225,9 @@ def walk(data, at):
     return found, sum(found) % 256, len(line)
 
 
-def read_frames(items, frame):
+def read_frames(items, frame, limits):
     """The log of the frames that items stand for, or the first fault with its item's number."""
-    log = Log()
+    log = Log(limits)
     for number, item in enumerate(items, 1):
         try:
             admit(log, frame(item))
@@ -219,13 +238,13 @@ def read_frames(items, frame):
     return log
 
 
-def read(data):
+def read(data, limits):
     """The log, or the first fault in document 01's order."""
-    if len(data) > LOG:
+    if len(data) > limits.log:
         raise Refused(1)
     lines = data.split(b"\n")
     last = lines.pop()
-    return read_frames(lines + [None] if last else lines, frame_of)
+    return read_frames(lines + [None] if last else lines, frame_of, limits)
 
 
 class Walk:
@@ -267,8 +286,7 @@ class Listing(Walk):
 
     def __init__(self, log):
         super().__init__(log)
-        self.cuts = [c for c in product(*(range(len(h) + 1) for h in log.history))
-                     if all(contained(log.clock(j, k), c) for j, k in enumerate(c))]
+        self.cuts = cuts(log)
 
     def true(self, f):
         """The cuts at which a formula is true."""
@@ -291,15 +309,14 @@ class Listing(Walk):
         return next((d for d in above if all(contained(d, e) for e in above)), None)
 
     def kept(self, cuts, bars):
-        """A structure, as the list of its cuts with its bars, unless it is dropped."""
+        """A structure, as the list of its cuts with its bars, its greatest cut and the raising in it, unless it is dropped."""
         if not cuts:
             return []
         top = next(d for d in cuts if all(contained(e, d) for e in cuts))
-        return [] if any(contained(top, b) for b in bars) else [(cuts, bars, top)]
+        return [] if any(contained(top, b) for b in bars) else [(cuts, bars, top, cache(lambda c: self.raised(cuts, c)))]
 
     def pair(self, left, right):
-        first, second = (cache(lambda c, cuts=cuts: self.raised(cuts, c)) for cuts, _, _ in (left, right))
-        self.rounds += sum(self.raised_in_both(first, second, c)[1] for c in self.starts)
+        self.rounds += sum(self.raised_in_both(left[3], right[3], c)[1] for c in self.starts)
         both = set(right[0])
         return self.kept([c for c in left[0] if c in both], left[1] + right[1])
 
@@ -325,11 +342,16 @@ def answer_line(start, cuts, rounds):
     return encode([0x40, int(start), len(cuts)] + [k for c in cuts for k in c] + list(rounds.to_bytes(4, "big")))
 
 
-def printed(data):
-    """What the program prints for an input."""
+def answers(log):
+    """The answer line of each question."""
+    listing = Listing(log)
+    return [answer_line(*listing.answer(f)) for f in log.questions]
+
+
+def printed(data, rule=answers):
+    """What the program prints for an input; the rule gives the answer lines of a log."""
     try:
-        log = read(data)
+        log = read(data, PROGRAM)
     except Refused as r:
         return encode([0x50, r.number, r.line // 256, r.line % 256])
-    listing = Listing(log)
-    return b"".join(answer_line(*listing.answer(f)) for f in log.questions)
+    return b"".join(rule(log))

@@ -8,7 +8,6 @@ import subprocess
 import sys
 import tempfile
 
-from corpus import LOGS
 from frames import parted
 
 LEAST = 10
@@ -49,7 +48,7 @@ RULES = {
     "lo one above hi refused": {"if station >= stations {": "if station >= stations || lo > hi && lo - hi == 1 {"},
     "lo equal to hi refused": {"if station >= stations {": "if station >= stations || lo == hi {"},
     "bytes after the formula": {"if q.is_empty() { Ok(tokens)": "if true { Ok(tokens)"},
-    "line of 101 bytes": {"bytes: &'a mut [u8; 100]": "bytes: &'a mut [u8; 101]", "(Log::default(), [0; 100])": "(Log::default(), [0; 101])", "digits.len() > 200": "digits.len() > 202"},
+    "line of 101 bytes": {"bytes: &'a mut [u8; 100]": "bytes: &'a mut [u8; 101]", "(Log::new(limits), [0; 100])": "(Log::new(limits), [0; 101])", "digits.len() > 200": "digits.len() > 202"},
     "line one too low": {"log.admit(f)).map_err(|fault| Refusal(fault, i as u32 + 1))?": "log.admit(f)).map_err(|fault| Refusal(fault, i as u32))?"},
     "width of and adds": {"joined(l, r, l.width * r.width, l.bars + r.bars)": "joined(l, r, l.width + r.width, l.bars + r.bars)"},
     "width 17 accepted": {"if s.width > 16 {": "if s.width > 17 {"},
@@ -84,33 +83,45 @@ RULES = {
     "cells of one structure less": {"s.held * log.stations() * starts,": "(s.held - 1) * log.stations() * starts,"},
     "just the cells refused": {"if workspace < cells {": "if workspace <= cells {"},
     "one cell less accepted": {"if workspace < cells {": "if workspace + 1 < cells {"},
+    "program with the operations' limits": {"Log::read(PROGRAM, data)": "Log::read(OPERATIONS, data)"},
+    "operations with the program's events": {"Limits { events: 254,": "Limits { events: 127,"},
+    "255th event accepted": {"Limits { events: 254,": "Limits { events: 255,"},
+    "254th event refused": {"Limits { events: 254,": "Limits { events: 253,"},
+    "count of 254 taken for none": {
+        "self.rows[0][0] == 255": "self.rows[0][0] >= 254",
+        "r[0] != 255": "r[0] < 254",
+        "if d[0] == 255 {": "if d[0] >= 254 {",
+        "if d[0] == 255 ||": "if d[0] >= 254 ||",
+    },
+    "cells of 127 events at most": {"s.held * log.stations() * starts,": "s.held * log.stations() * starts.min(128),"},
     "lower case digits": {"b'A'..=b'F' =>": "b'a'..=b'f' => Ok(b - b'a' + 10),\n        b'A'..=b'F' =>"},
 }
 
 # What a case of the corpus prints: what the program does, and of each question its forecast, and what Answer comes to, lent one cell less
-# than that and lent just these cells: a refusal, or the program's line.
+# than that and lent just these cells: a refusal, or a line, which is the program's where that takes the log.
 TOLD = """
 pub fn told(data: &[u8]) -> Vec<u8> {
-    use fault::Refusal;
+    use fault::{Fault, Refusal};
     use operations::*;
     let refused = |Refusal(fault, line): Refusal, kept: &str| format!(" refused {} {line}{kept}\\n", fault.number()).into_bytes();
     let shown = printed(data);
-    let (mut out, mut lines) = (shown.clone(), shown.split_inclusive(|&b| b == b'\\n'));
-    for q in 0.. {
-        let costs = match forecast(data, q) {
-            Ok(costs) => costs,
-            Err(r) => return [out, refused(r, "")].concat(),
-        };
-        let ([width, bars, held, cells, ceiling], line) = (costs, lines.next().unwrap());
+    let (mut out, mut lines) = (shown.clone(), shown.split_inclusive(|&b| b == b'\\n').filter(|line| line.starts_with(b"40")));
+    let log = match log::Log::read(log::OPERATIONS, data) {
+        Ok(log) => log,
+        Err(r) => return [out, refused(r, "")].concat(),
+    };
+    for q in &log.questions {
+        let costs = costs(&log, q);
+        let ([width, bars, held, cells, ceiling], line) = (costs, lines.next().map_or_else(|| answer_question(&log, q), <[u8]>::to_vec));
         out.extend(format!(" {width} {bars} {held} {cells} {ceiling}\\n").bytes());
         for lent in [cells - 1, cells] {
             out.extend(match room(costs, lent, BARS) {
-                Ok(()) => [b" kept\\n", line].concat(),
+                Ok(()) => [&b" kept\\n"[..], &line].concat(),
                 Err(r) => refused(r, " kept"),
             });
         }
     }
-    out
+    [out, refused(Refusal(Fault::NoSuchQuestion, 0), "")].concat()
 }
 """
 
@@ -168,7 +179,7 @@ def build(folder):
 def corpus():
     """The logs of the corpus, and what is to be printed for each."""
     made = parted(*((CASES / name).read_bytes() for name in ("stdin", "stdout")))
-    return zip(*[(log, printed) for letter, log, printed in made if letter == "E"][:LOGS])
+    return zip(*[(log, printed) for letter, log, printed in made if letter == "E"])
 
 
 def answers(folder, i, logs):

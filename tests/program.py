@@ -13,33 +13,15 @@ import sys
 import tempfile
 import time
 
-from bases import Rule, few
+from bases import answered
 from bench_cases import ALL, BENCH, HEAD, HEADER, WIDE18, ZERO, chain, ladder
-from frames import Draw, atom, log_of, word
-from listing import LOG, Refused, answer_line, atoms, contained, encode, printed, read, size, tokens
+from frames import ONE, Draw, atom, in_turn, log_of, padded, word
+from listing import OPERATIONS, PROGRAM, atoms, encode, printed, read, size, tokens
+from read_write import LONGEST, full_log
 
 ROOT = pathlib.Path(__file__).resolve().parent.parent
-PROGRAM = ROOT / "target" / "bin" / "moments"
+MOMENTS = ROOT / "target" / "bin" / "moments"
 SHORT, PAUSE, LIMIT = 100, 0.05, 60
-
-
-def by_rule(log, f):
-    """Start, the cuts listed and rounds, by the basis."""
-    rule = Rule(log)
-    basis = rule.basis(f, True)
-    tops = {s.top for s in basis}
-    listed = sorted(c for c in tops if not any(c != d and contained(c, d) for d in tops))
-    return any(s.least == rule.empty and not s.bars for s in basis), listed, rule.rounds
-
-
-def expected(data):
-    try:
-        log = read(data)
-    except Refused:
-        return printed(data)
-    if few(log):
-        return printed(data)
-    return b"".join(answer_line(*by_rule(log, f)) for f in log.questions)
 
 
 def refusal(number, line):
@@ -47,20 +29,6 @@ def refusal(number, line):
 
 
 # FILES
-
-def line(length):
-    """A line of so many bytes, an odd number from 17 to 201, that is in order but for its formula's size: "not" again and again, then 01."""
-    return encode([0x30] + [2] * ((length - 1) // 2 - 8) + atom(0, 0, 1))
-
-
-def padded(data, length):
-    """The log with further lines in order, up to a length."""
-    left = length - len(data)
-    while left > 201:
-        data += line(101)
-        left -= 101
-    return data + (line(left) if left % 2 else line(51) + line(left - 51))
-
 
 def question(d, lead):
     """Four two-way ors and four tokens 01 joined by and, with a lead: width 16, 32 tokens, 12 of them 01."""
@@ -75,7 +43,7 @@ def at_every_limit():
     """The longest log that is accepted: 8 stations, 127 events, 16 questions, each with the most tokens, atoms, and width or bars."""
     d = Draw(20261116)
     frames, last = [[0x10, 8] + [b for _ in range(8) for b in word(d.below(4))]], [[0] * 8 for _ in range(8)]
-    for i in range(127):
+    for i in range(PROGRAM.events):
         s = i % 8
         last[s] = [max(pair) + (j == s) for j, pair in enumerate(zip(last[s], last[d.below(8)]))]
         frames.append([0x20, s] + word(d.below(4)) + last[s])
@@ -91,19 +59,33 @@ def examples():
         yield name, (ROOT / name).read_bytes(), line.encode() + b"\n"
 
 
+def over():
+    """Logs that the operations take, or refuse with something else: the program has its own limits from the first line on."""
+    events, at_129 = log_of([ONE] + in_turn(1, 128, lambda i: i % 3)), refusal(4, 129)
+    yield "128 events, then no line", events + b"G\n", at_129
+    yield "128 events, then a wrong check byte", events + b"3000\n", at_129
+    yield "128 events, then no formula", events + encode([0x30]), at_129
+    yield "128 events, the last one too short", log_of([ONE] + in_turn(1, 127, lambda i: i % 3) + [[0x20]]), at_129
+    yield "128 events, the last one's clock wrong", log_of([ONE] + in_turn(1, 127, lambda i: i % 3) + [[0x20, 0, 0, 0, 127]]), at_129
+    yield "254 events", chain(254), at_129
+    yield "254 events of eight stations, 8,192 bytes", full_log(PROGRAM.log, 7), at_129
+    yield "254 events of eight stations, 8,193 bytes", full_log(PROGRAM.log + 1, 8), refusal(1, 0)
+    yield "the longest that the operations take", LONGEST, refusal(1, 0)
+
+
 def files():
     """A name, the bytes, and what is to be printed where that is worked out by hand."""
     long, full = refusal(1, 0), at_every_limit()
-    for length in (LOG + 1, 100000):
+    for length in (PROGRAM.log + 1, OPERATIONS.log, OPERATIONS.log + 1, 100000):
         yield f"{length} bytes of lines in order", padded(full, length), long
         yield f"{length} bytes, no line", b"G" * length, long
         yield f"{length} bytes of 0A", b"\n" * length, long
         yield f"{length} bytes, an answer's first", BENCH + b"\0" * (length - len(BENCH)), long
-    yield "8,192 bytes, the 17th question at line 145", padded(full, LOG), refusal(4, 145)
-    yield "8,192 bytes, the 128th event at line 129", padded(chain(128), LOG), refusal(4, 129)
-    yield "8,192 bytes, the first fault at line 5, no 0A at the end", padded(HEAD, LOG - 20) + b"0" * 20, refusal(9, 5)
-    yield "8,192 bytes, no line", b"0" * LOG, refusal(2, 1)
-    yield "8,191 bytes, no line", b"0" * (LOG - 1), refusal(2, 1)
+    yield "8,192 bytes, the 17th question at line 145", padded(full, PROGRAM.log), refusal(4, 145)
+    yield "8,192 bytes, the 128th event at line 129", padded(chain(128), PROGRAM.log), refusal(4, 129)
+    yield "8,192 bytes, the first fault at line 5, no 0A at the end", padded(HEAD, PROGRAM.log - 20) + b"0" * 20, refusal(9, 5)
+    yield "8,192 bytes, no line", b"0" * PROGRAM.log, refusal(2, 1)
+    yield "8,191 bytes, no line", b"0" * (PROGRAM.log - 1), refusal(2, 1)
     yield "a good log and one byte", full + b"0", refusal(2, 145)
     yield "every limit", full, None
     yield "every limit, without the last 0A", full[:-1], refusal(2, 144)
@@ -121,6 +103,7 @@ def files():
     yield "a byte 00 at the end", BENCH + b"\0", refusal(2, 6)
     yield "127 events", chain(127), None
     yield "128 events", chain(128), refusal(4, 129)
+    yield from over()
     yield "width 18", WIDE18, refusal(9, 5)
     yield "ladder of 3 stations", ladder(3, 24), None
     yield "ladder of 8 stations", ladder(8, 127), None
@@ -134,16 +117,16 @@ def from_file(data):
     with tempfile.TemporaryFile() as file:
         file.write(data)
         file.seek(0)
-        return subprocess.run([PROGRAM], stdin=file, capture_output=True, timeout=LIMIT)
+        return subprocess.run([MOMENTS], stdin=file, capture_output=True, timeout=LIMIT)
 
 
 def from_pipe(data):
-    return subprocess.run([PROGRAM], input=data, capture_output=True, timeout=LIMIT)
+    return subprocess.run([MOMENTS], input=data, capture_output=True, timeout=LIMIT)
 
 
 def in_writes(parts, pause):
     """The parts one after the other, so that the program gets each before the next is there."""
-    program = subprocess.Popen([PROGRAM], stdin=subprocess.PIPE, stdout=subprocess.PIPE, stderr=subprocess.PIPE)
+    program = subprocess.Popen([MOMENTS], stdin=subprocess.PIPE, stdout=subprocess.PIPE, stderr=subprocess.PIPE)
     try:
         for part in parts:
             program.stdin.write(part)
@@ -152,7 +135,7 @@ def in_writes(parts, pause):
     except BrokenPipeError:
         pass
     out, error = program.communicate(timeout=LIMIT)
-    return subprocess.CompletedProcess([PROGRAM], program.returncode, out, error)
+    return subprocess.CompletedProcess([MOMENTS], program.returncode, out, error)
 
 
 def ways(data):
@@ -166,20 +149,20 @@ def ways(data):
 
 def at_limits(data):
     """Each question's tokens and atoms, and the greatest width or bar count at a token of it."""
-    for f in read(data).questions:
+    for f in read(data, PROGRAM).questions:
         seen = []
         size(f, True, seen)
         yield tokens(f), len(atoms(f)), max(map(max, seen))
 
 
 def main():
-    if not PROGRAM.exists():
+    if not MOMENTS.exists():
         sys.exit("target/bin/moments is not there: run rt check moments")
     if set(at_limits(at_every_limit())) != {(32, 12, 16)}:
         sys.exit("a question is not at every limit")
     cases = wrong = 0
     for name, data, by_hand in files():
-        due = expected(data)
+        due = printed(data, answered)
         if by_hand not in (None, due):
             sys.exit(f"{name}: {by_hand} by hand, {due} by the listing")
         for way, run in ways(data):

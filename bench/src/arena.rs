@@ -45,10 +45,18 @@ pub fn touch() {
     unsafe { (*ARENA.0.get()).fill(1) }
 }
 
+/// The system is asked again, also where the work has panicked.
+struct Done;
+
+impl Drop for Done {
+    fn drop(&mut self) {
+        FREE.store(usize::MAX, Relaxed);
+    }
+}
+
 /// Does some work with the array, from its front. Nothing that the work allocates outlives it.
 pub fn lent<T: Copy>(work: impl FnOnce() -> T) -> T {
     FREE.store(0, Relaxed);
-    let out = work();
-    FREE.store(usize::MAX, Relaxed);
-    out
+    let _done = Done;
+    work()
 }

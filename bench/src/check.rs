@@ -1,12 +1,12 @@
-//! Whether the other codes print what they are to print, before they are measured: on the corpus what its listing made, and on logs of the
-//! comparison, damaged ones among them, what the independent code prints.
+//! Whether the other codes print and answer what they are to, before they are measured: on the corpus what its listing made, and on logs of
+//! the comparison, damaged and large ones among them, what the independent code prints and answers.
 use crate::arena;
 use crate::codes::{Peer, PEERS};
 use compare::check::Case;
-use compare::log::QUESTIONS;
-use compare::operations::{printed, LINE};
+use compare::log::{OPERATIONS, PROGRAM, QUESTIONS};
+use compare::operations::{self, printed, BARS, LINE, WORKSPACE};
 use std::fs::read;
-use std::panic::{catch_unwind, AssertUnwindSafe};
+use std::panic::{catch_unwind, set_hook, take_hook, AssertUnwindSafe};
 
 const CASES: &str = "crates/cases";
 
@@ -14,13 +14,18 @@ const CASES: &str = "crates/cases";
 pub const LOGS: u64 = 4000;
 pub const SEED: u64 = 20261115;
 
-/// What a code prints on a log; for an accepted one also by one Answer a question.
-fn equal(peer: &Peer, log: &[u8], expected: &[u8]) -> bool {
+/// What is to be printed for a log, with the program's limits, and the lines of Answer, with the operations'.
+struct Expected {
+    printed: Vec<u8>,
+    answers: Vec<u8>,
+}
+
+fn equal(peer: &Peer, log: &[u8], expected: &Expected) -> bool {
     let out = &mut [0; QUESTIONS * LINE];
     let same = || {
         let n = arena::lent(|| (peer.printed)(log, out));
-        let mut lines = expected.split_inclusive(|&b| b == 0x0A).filter(|l| l.starts_with(b"40")).enumerate();
-        out[..n] == *expected
+        let mut lines = expected.answers.split_inclusive(|&b| b == 0x0A).enumerate();
+        out[..n] == expected.printed
             && lines.all(|(q, line)| {
                 let n = arena::lent(|| (peer.answer)(log, q, out));
                 out[..n] == *line
@@ -29,11 +34,10 @@ fn equal(peer: &Peer, log: &[u8], expected: &[u8]) -> bool {
     catch_unwind(AssertUnwindSafe(same)).unwrap_or(false)
 }
 
-fn all_equal(which: &str, log: &[u8], expected: &[u8]) -> Result<(), String> {
-    match PEERS.iter().find(|p| !equal(p, log, expected)) {
-        None => Ok(()),
-        Some(p) => Err(format!("{} differs on {which}: {}, where this is to be printed: {}", p.name, log.escape_ascii(), expected.escape_ascii())),
-    }
+fn all_equal(which: &str, log: &[u8], expected: &Expected) -> Result<(), String> {
+    let Some(p) = PEERS.iter().find(|p| !equal(p, log, expected)) else { return Ok(()) };
+    let [log, printed, answers] = [log, &expected.printed, &expected.answers].map(<[u8]>::escape_ascii);
+    Err(format!("{} differs on {which}: {log}, where this is to be printed: {printed}, and answered: {answers}", p.name))
 }
 
 /// The letter and the log of each of the test program's cases; crates/trial says how they stand in its input.
@@ -59,9 +63,14 @@ fn outputs(printed: &[u8]) -> Vec<Vec<u8>> {
     outputs
 }
 
-/// What the program prints of that: the lines before those about a forecast, which begin with a space.
-fn program(printed: &[u8]) -> Vec<u8> {
-    printed.split_inclusive(|&b| b == 0x0A).take_while(|line| line[0] != b' ').flatten().copied().collect()
+/// What a case shows: what the program prints, and behind it, where a line about a forecast begins with a space, the lines of Answer. Where
+/// there are none, those that the program prints are to be answered.
+fn shown(output: &[u8]) -> Expected {
+    let lines: Vec<&[u8]> = output.split_inclusive(|&b| b == 0x0A).collect();
+    let (printed, rest) = lines.split_at(lines.iter().take_while(|line| line[0] != b' ').count());
+    let answers = if rest.is_empty() { printed } else { rest };
+    let answers = answers.iter().filter(|line| line.starts_with(b"40")).copied().flatten();
+    Expected { printed: printed.concat(), answers: answers.copied().collect() }
 }
 
 fn file(name: &str) -> Result<Vec<u8>, String> {
@@ -69,20 +78,47 @@ fn file(name: &str) -> Result<Vec<u8>, String> {
     read(&path).map_err(|e| format!("{path}: {e}"))
 }
 
-/// How many logs there were, or the first on which a code differs.
-pub fn run(logs: u64, seed: u64) -> Result<u64, String> {
-    let (stdin, stdout) = (file("stdin")?, file("stdout")?);
-    let (cases, expected) = (cases(&stdin).unwrap_or_default(), outputs(&stdout));
-    if cases.is_empty() || cases.len() != expected.len() {
-        return Err(format!("{CASES} has {} cases and {} outputs", cases.len(), expected.len()));
+/// The lines of Answer for all questions of a log, by the independent code.
+fn answers(log: &[u8]) -> Vec<u8> {
+    let (mut lines, line) = (vec![], &mut [0; LINE]);
+    for q in 0.. {
+        let Ok(n) = operations::answer(log, q, WORKSPACE, BARS, line) else { break };
+        lines.extend(&line[..n]);
     }
-    let corpus: Vec<_> = cases.iter().zip(&expected).filter(|((letter, _), _)| b"EP".contains(letter)).collect();
-    for (i, ((_, log), printed)) in corpus.iter().enumerate() {
-        all_equal(&format!("log {} of {CASES}", i + 1), log, &program(printed))?;
+    lines
+}
+
+/// Whether a log is accepted and has more events than the program takes.
+fn large(log: &[u8]) -> bool {
+    operations::read(log, &mut [0; OPERATIONS.list]).is_ok_and(|[_, events, _, _]| events > PROGRAM.events)
+}
+
+/// How many logs there were, and how many accepted ones of more events than the program takes; or the first on which a code differs. One
+/// that panics does, and says no more than that, since a report of its own would be written in the array that it is lent.
+pub fn run(logs: u64, seed: u64) -> Result<(u64, u64), String> {
+    let usual = take_hook();
+    set_hook(Box::new(|_| {}));
+    let out = compared(logs, seed);
+    set_hook(usual);
+    out
+}
+
+fn compared(logs: u64, seed: u64) -> Result<(u64, u64), String> {
+    let (stdin, stdout) = (file("stdin")?, file("stdout")?);
+    let (cases, outputs) = (cases(&stdin).unwrap_or_default(), outputs(&stdout));
+    if cases.is_empty() || cases.len() != outputs.len() {
+        return Err(format!("{CASES} has {} cases and {} outputs", cases.len(), outputs.len()));
+    }
+    let (mut corpus, mut larger) = (0, 0);
+    for ((_, log), output) in cases.iter().zip(&outputs).filter(|((letter, _), _)| b"EP".contains(letter)) {
+        corpus += 1;
+        larger += large(log) as u64;
+        all_equal(&format!("log {corpus} of {CASES}"), log, &shown(output))?;
     }
     for seed in seed..seed + logs {
         let Case { log, .. } = Case::new(seed);
-        all_equal(&format!("the log of `bench check 1 {seed}`"), &log, &printed(&log))?;
+        larger += large(&log) as u64;
+        all_equal(&format!("the log of `bench check 1 {seed}`"), &log, &Expected { printed: printed(&log), answers: answers(&log) })?;
     }
-    Ok(corpus.len() as u64 + logs)
+    Ok((corpus + logs, larger))
 }

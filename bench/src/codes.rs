@@ -1,5 +1,6 @@
 //! The codes beside which the proved one is measured: one more is one more entry here.
 use crate::{fast, plain};
+use compare::log::{OPERATIONS, PROGRAM};
 use compare::operations::{self, BARS, WORKSPACE};
 
 pub struct Peer {
@@ -54,6 +55,11 @@ pub fn names() -> String {
 
 pub fn ratio_names() -> String {
     cells(|i| format!("proved / {}", PEERS[i].name))
+}
+
+/// A text of the page, with the most events that the program and the operations take.
+pub fn filled(text: &str) -> String {
+    text.replace("PROGRAM", &PROGRAM.events.to_string()).replace("OPERATIONS", &OPERATIONS.events.to_string())
 }
 
 /// The head of a table, with the line below it.

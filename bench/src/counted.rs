@@ -1,13 +1,13 @@
 //! Instructions of the whole program under callgrind, and its memory under massif.
-use crate::codes::{cells, head, names, PEERS};
+use crate::codes::{cells, filled, head, names, PEERS};
 use crate::timed::{rounds, wide_log};
-use compare::log::line;
+use compare::log::{line, OPERATIONS, PROGRAM, QUESTIONS};
 use std::env::{current_exe, vars_os};
 use std::fmt::Write;
 use std::fs::{create_dir_all, write, File};
 use std::process::Command;
 
-pub const PROGRAM: &str = "target/bin/moments";
+pub const MOMENTS: &str = "target/bin/moments";
 const FOLDER: &str = "target/bench";
 
 /// A log in a file under the folder.
@@ -33,6 +33,13 @@ fn instructions(program: &[&str], log: &str) -> (String, u64) {
     (printed, line.rsplit(' ').next().unwrap().parse().unwrap())
 }
 
+/// What ten calls more of Read take.
+fn ten_reads(log: &str) -> u64 {
+    let bench = current_exe().unwrap();
+    let reads = |times: &str| instructions(&[bench.to_str().unwrap(), "read", times], log).1;
+    reads("11") - reads("1")
+}
+
 /// Instructions of the programs on a log with 16 questions, what the proved one takes a log byte and a round, and Read a log byte.
 pub struct Program {
     stations: usize,
@@ -51,15 +58,14 @@ fn program(stations: usize, events: usize) -> Program {
     let name = format!("{stations}x{events}");
     let (asked, unasked, empty) = (file(&name, &data), file(&(name + "-bare"), &bare), file("empty", b""));
     let bench = current_exe().unwrap();
-    let (printed, proved) = instructions(&[PROGRAM], &asked);
+    let (printed, proved) = instructions(&[MOMENTS], &asked);
     let peer = |name: &str| {
         let (line, count) = instructions(&[bench.to_str().unwrap(), "print", name], &asked);
         assert!(line == printed, "what {name} prints");
         count
     };
     let peers = PEERS.iter().map(|p| peer(p.name)).collect();
-    let (reading, beginning) = (instructions(&[PROGRAM], &unasked).1, instructions(&[PROGRAM], &empty).1);
-    let reads = |times: &str| instructions(&[bench.to_str().unwrap(), "read", times], &asked).1;
+    let (reading, beginning) = (instructions(&[MOMENTS], &unasked).1, instructions(&[MOMENTS], &empty).1);
     let rounds = printed.split_inclusive('\n').map(|l| rounds(l.as_bytes())).sum();
     Program {
         stations,
@@ -70,13 +76,14 @@ fn program(stations: usize, events: usize) -> Program {
         peers,
         per_byte: (reading - beginning) as f64 / bare.len() as f64,
         per_round: (proved - reading) as f64 / rounds as f64,
-        read: (reads("11") - reads("1")) as f64 / (10 * data.len()) as f64,
+        read: ten_reads(&asked) as f64 / (10 * data.len()) as f64,
     }
 }
 
-/// For 2 to 8 stations and for fewer events; the last is the largest log.
+/// For 2 to 8 stations and for fewer events; the last is the largest log that the program takes.
 pub fn programs() -> Vec<Program> {
-    [(2, 127), (3, 127), (4, 127), (6, 127), (8, 32), (8, 64), (8, 127)].map(|(stations, events)| program(stations, events)).into()
+    let most = PROGRAM.events;
+    [(2, most), (3, most), (4, most), (6, most), (8, 32), (8, 64), (8, most)].map(|(stations, events)| program(stations, events)).into()
 }
 
 pub fn section(programs: &[Program]) -> String {
@@ -86,6 +93,33 @@ pub fn section(programs: &[Program]) -> String {
         let Program { stations, events, bytes, rounds, proved, peers, per_byte, per_round, read } = p;
         let peers = cells(|i| peers[i].to_string());
         writeln!(page, "| {stations} | {events} | {bytes} | {rounds} | {proved} | {peers} | {per_byte:.0} | {per_round:.0} | {read:.2} |").unwrap();
+    }
+    page
+}
+
+/// Instructions of Read, and of Answer by each code, on the largest log that the program takes and on two that it does not.
+pub fn calls_section() -> String {
+    let (few, many, mut page) = (PROGRAM.events, OPERATIONS.events, filled(include_str!("calls.md")));
+    page += &head(format!("| stations | events | log bytes | rounds | Read | Read, a log byte | Answer, proved | {} |", names()));
+    for (stations, events) in [(8, few), (4, many), (8, many)] {
+        let (data, bench) = (wide_log(stations, events, QUESTIONS), current_exe().unwrap());
+        let log = file(&format!("{stations}x{events}"), &data);
+        let (bytes, read) = (data.len(), ten_reads(&log));
+        let process = |code: &str, times: &str| instructions(&[bench.to_str().unwrap(), "answer", code, times], &log);
+        let (_, beginning) = process("proved", "0");
+        let answers = |code: &str| {
+            let (lines, count) = process(code, "1");
+            (lines, (count - beginning) / QUESTIONS as u64)
+        };
+        let (lines, proved) = answers("proved");
+        let peers = cells(|i| {
+            let (theirs, count) = answers(PEERS[i].name);
+            assert!(theirs == lines, "what {} answers", PEERS[i].name);
+            count.to_string()
+        });
+        let rounds = lines.split_inclusive('\n').map(|l| rounds(l.as_bytes())).sum::<u64>() as f64 / QUESTIONS as f64;
+        let per_byte = read as f64 / (10 * bytes) as f64;
+        writeln!(page, "| {stations} | {events} | {bytes} | {rounds:.0} | {} | {per_byte:.2} | {proved} | {peers} |", read / 10).unwrap();
     }
     page
 }
@@ -122,7 +156,7 @@ fn parts(program: &[&str], log: &str) -> Vec<(String, u64)> {
 pub fn parts_section() -> String {
     let mut page = String::from(include_str!("parts.md"));
     let (log, bench) = (file("8x127", &wide_log(8, 127, 16)), current_exe().unwrap());
-    for (name, program) in [("proved", vec![PROGRAM]), ("fast", vec![bench.to_str().unwrap(), "print", "fast"])] {
+    for (name, program) in [("proved", vec![MOMENTS]), ("fast", vec![bench.to_str().unwrap(), "print", "fast"])] {
         page += &head(format!("\n| {name} | instructions |"));
         parts(&program, &log).iter().for_each(|(function, n)| writeln!(page, "| `{function}` | {n} |").unwrap());
     }
@@ -159,8 +193,8 @@ pub struct Memory {
 
 fn memory_on(log: String) -> Memory {
     let out = format!("{FOLDER}/massif.out");
-    let (printed, _) = valgrind(&["--tool=massif", "--stacks=yes", "--peak-inaccuracy=0.0", &format!("--massif-out-file={out}"), PROGRAM], &log);
-    let limited = Command::new("sh").args(["-c", &format!("ulimit -s 256; {PROGRAM} < {log}")]).output().unwrap();
+    let (printed, _) = valgrind(&["--tool=massif", "--stacks=yes", "--peak-inaccuracy=0.0", &format!("--massif-out-file={out}"), MOMENTS], &log);
+    let limited = Command::new("sh").args(["-c", &format!("ulimit -s 256; {MOMENTS} < {log}")]).output().unwrap();
     assert!(!printed.is_empty() && printed.as_bytes() == limited.stdout, "what is printed for {log}, also with 256 KiB of stack");
     let told = std::fs::read_to_string(out).unwrap();
     let most = |key: &str| told.lines().filter_map(|l| l.strip_prefix(key)?.parse().ok()).max().unwrap();
@@ -174,9 +208,9 @@ pub fn memory() -> [Memory; 3] {
 pub fn memory_section(memory: &[Memory]) -> String {
     let mut page = String::from(include_str!("memory.md"));
     memory.iter().for_each(|Memory { log, heap, stack }| writeln!(page, "| {log} | {heap} | {stack} |").unwrap());
-    let out = Command::new("nm").args(["-D", "--undefined-only", PROGRAM]).output().expect("nm");
+    let out = Command::new("nm").args(["-D", "--undefined-only", MOMENTS]).output().expect("nm");
     let names = String::from_utf8_lossy(&out.stdout).into_owned();
     let names: Vec<String> = names.lines().filter_map(|l| Some(format!("`{}`", l.trim().strip_prefix("U ")?.split('@').next()?))).collect();
-    writeln!(page, "\nWhat the program takes from the C library (`nm -D --undefined-only {PROGRAM}`): {}. None of these allocates.", names.join(", ")).unwrap();
+    writeln!(page, "\nWhat the program takes from the C library (`nm -D --undefined-only {MOMENTS}`): {}. None of these allocates.", names.join(", ")).unwrap();
     page
 }

@@ -5,48 +5,34 @@
 //!        bench run           the times of one run, a line for each log and code
 //!        bench print CODE    answers a log from standard input by another code: `independent`, `plain` or `fast`
 //!        bench read TIMES    reads a log from standard input that many times by Read of the proved code
-//!        bench check [LOGS] [SEED]    compares what the other codes print, on the corpus and on logs of the comparison
+//!        bench answer CODE TIMES      answers each of 16 questions of a log from standard input that many times by Answer of a code,
+//!                                     `proved` or one of those
+//!        bench check [LOGS] [SEED]    compares what the other codes print and answer, on the corpus and on logs of the comparison
 mod arena;
 mod check;
 mod codes;
 mod counted;
 mod fast;
+mod once;
 mod plain;
 mod plot;
 mod spin;
 mod timed;
 
-use codes::{cells, head, ratio_names, Peer, PEERS};
-use compare::log::{LIST, QUESTIONS};
-use compare::operations::LINE;
+use codes::{cells, filled, head, ratio_names, PEERS};
+use compare::log::PROGRAM;
+use compare::operations::WORKSPACE;
 use compare::proved;
-use counted::{Memory, Program, PROGRAM};
-use std::io::{stdin, stdout, Read, Write};
+use counted::{Memory, Program, MOMENTS};
 use std::path::Path;
 use std::process::{exit, Command};
 use timed::{Row, Spread, PASSES, RUNS};
 
-fn print(peer: &Peer) {
-    let (mut data, mut out) = (Vec::new(), [0; QUESTIONS * LINE]);
-    stdin().read_to_end(&mut data).unwrap();
-    let n = arena::lent(|| (peer.printed)(&data, &mut out));
-    stdout().write_all(&out[..n]).unwrap();
-}
-
-fn read(times: &str) {
-    let mut data = Vec::new();
-    stdin().read_to_end(&mut data).unwrap();
-    let mut list = [0; LIST];
-    for _ in 0..times.parse().unwrap_or_else(|_| refuse("usage: bench read TIMES")) {
-        proved::read(&data, &mut list).unwrap_or_else(|_| refuse("the log is refused"));
-    }
-}
-
 /// The page's head, with a line for each peer and how often is measured.
 fn opening() -> String {
     let peers: Vec<String> = PEERS.iter().map(|p| format!("- *{}*: {}.", p.name, p.about)).collect();
-    let filled = include_str!("head.md").replace("PEERS", &peers.join("\n"));
-    filled.replace("RUNS", &RUNS.to_string()).replace("PASSES", &PASSES.to_string())
+    let page = filled(include_str!("head.md")).replace("PEERS", &peers.join("\n"));
+    page.replace("RUNS", &RUNS.to_string()).replace("PASSES", &PASSES.to_string()).replace("CELLS", &WORKSPACE.to_string())
 }
 
 /// How many of the runs keep to a target.
@@ -54,10 +40,10 @@ fn kept(figures: &[f64], most: f64) -> String {
     format!("in {} of {} runs", figures.iter().filter(|&&x| x <= most).count(), figures.len())
 }
 
-/// The figures for the largest log, which is the last of each table.
+/// The figures for the largest log that the program takes, which is the last of its tables.
 fn short(rows: &[Row], programs: &[Program], memory: &[Memory]) -> String {
-    let (row, program) = (rows.last().unwrap(), programs.last().unwrap());
-    let mut page = include_str!("short.md").to_string() + &head("| figure | target | met | measured |".into());
+    let (row, program) = (rows.iter().rfind(|r| r.events <= PROGRAM.events).unwrap(), programs.last().unwrap());
+    let mut page = filled(include_str!("short.md")) + &head("| figure | target | met | measured |".into());
     for (i, p) in PEERS.iter().enumerate() {
         let medians: Vec<f64> = row.ratios[i].iter().map(|r| r.median).collect();
         let (target, met) = p.target.map_or(("-".into(), "-".into()), |most| (format!("at most {most}"), kept(&medians, most)));
@@ -91,8 +77,8 @@ fn short(rows: &[Row], programs: &[Program], memory: &[Memory]) -> String {
 /// What is not there, each with what to run or install.
 fn missing(folder: &str) -> Vec<String> {
     let mut all: Vec<String> = proved::MISSING.into_iter().map(String::from).collect();
-    if !Path::new(PROGRAM).exists() {
-        all.push(format!("{PROGRAM} is not there: run `rt check moments`, and this from the repository's root"));
+    if !Path::new(MOMENTS).exists() {
+        all.push(format!("{MOMENTS} is not there: run `rt check moments`, and this from the repository's root"));
     }
     for (tool, package) in [("valgrind", "valgrind"), ("nm", "binutils")] {
         if Command::new(tool).arg("--version").output().is_err() {
@@ -115,7 +101,7 @@ fn refuse(why: &str) -> ! {
     end(2, why)
 }
 
-fn checked(logs: u64, seed: u64) -> u64 {
+fn checked(logs: u64, seed: u64) -> (u64, u64) {
     check::run(logs, seed).unwrap_or_else(|why| end(1, &why))
 }
 
@@ -124,11 +110,13 @@ fn main() {
     let words: Vec<&str> = args.iter().map(String::as_str).collect();
     let folder = match words[..] {
         ["run"] => return std::print!("{}", timed::run()),
-        ["print", code] => return print(PEERS.iter().find(|p| p.name == code).unwrap_or_else(|| refuse("no such code"))),
-        ["read", times] => return read(times),
+        ["print", code] => return once::print(code),
+        ["read", times] => return once::read(times),
+        ["answer", code, times] => return once::answer(code, times),
         ["check", ref numbers @ ..] if numbers.len() < 3 => {
             let number = |i: usize, usual| numbers.get(i).map_or(usual, |n| n.parse().unwrap_or_else(|_| refuse("usage: bench check [LOGS] [SEED]")));
-            return println!("{} logs, all equal", checked(number(0, check::LOGS), number(1, check::SEED)));
+            let (logs, large) = checked(number(0, check::LOGS), number(1, check::SEED));
+            return println!("{logs} logs, {large} of them of more than {} events and accepted, all equal", PROGRAM.events);
         }
         [folder] => folder,
         [] => "docs",
@@ -145,6 +133,7 @@ fn main() {
         short(&rows, &programs, &memory),
         timed::section(&rows),
         counted::section(&programs),
+        counted::calls_section(),
         counted::parts_section(),
         counted::memory_section(&memory),
         spin::section(),

@@ -1,6 +1,6 @@
 //! The basis in plain Rust: cuts handed on by value, a row an Option, a structure its rows by station.
 use compare::formula::{within, Token, Tokens};
-use compare::log::{contained, Cut, Log};
+use compare::log::{contained, Cut, Log, OPERATIONS};
 use compare::operations::{answer_line, printed_by};
 
 fn join(c: &Cut, d: &Cut) -> Cut {
@@ -99,7 +99,7 @@ fn answer_question(log: &Log, f: &[Token]) -> Vec<u8> {
 
 /// The line of a question of an accepted log.
 pub fn answer(data: &[u8], q: usize) -> Vec<u8> {
-    let log = Log::read(data).unwrap();
+    let log = Log::read(OPERATIONS, data).unwrap();
     answer_question(&log, &log.questions[q])
 }
 

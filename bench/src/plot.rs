@@ -10,7 +10,7 @@ const BOTTOM: f64 = 370.0;
 const DECADES: i32 = 4;
 
 fn x(events: usize) -> f64 {
-    LEFT + 20.0 + (events as f64 / 8.0).log2() / 4.0 * (RIGHT - LEFT - 40.0)
+    LEFT + 20.0 + (events as f64 / 8.0).log2() / 5.0 * (RIGHT - LEFT - 40.0)
 }
 
 fn y(micros: f64) -> f64 {

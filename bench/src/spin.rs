@@ -4,7 +4,7 @@ use crate::timed::micros;
 use compare::draw::Draw;
 use compare::formula::Token;
 use compare::listing;
-use compare::log::{line, Log};
+use compare::log::{line, Log, OPERATIONS};
 use compare::made::{self, Shape};
 use compare::operations::{BARS, LINE, WORKSPACE};
 use compare::proved;
@@ -100,7 +100,7 @@ pub fn section() -> String {
     page += &head("| stations | events | consistent cuts | Spin: states | Spin: seconds | proved: microseconds |".into());
     for (stations, events) in [(2, 32), (4, 32), (4, 64), (4, 127), (6, 64), (8, 64), (8, 127)] {
         let data = never_log(stations, events);
-        let log = Log::read(&data).unwrap();
+        let log = Log::read(OPERATIONS, &data).unwrap();
         let cuts = if listing::count(&log) <= 5_000_000 { listing::consistent(&log).len().to_string() } else { "-".into() };
         std::fs::write(format!("{FOLDER}/cuts.pml"), promela(&log)).unwrap();
         let spin = match installed.then(verified).flatten() {

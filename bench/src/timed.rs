@@ -1,9 +1,9 @@
 //! Times of one Answer, by stations and events.
 use crate::arena::{lent, touch};
-use crate::codes::{cells, head, names, ratio_names, PEERS};
+use crate::codes::{cells, filled, head, names, ratio_names, PEERS};
 use compare::draw::Draw;
 use compare::formula::Tokens;
-use compare::log::Log;
+use compare::log::{Log, OPERATIONS, PROGRAM};
 use compare::made::{self, Shape};
 use compare::operations::{BARS, LINE, WORKSPACE};
 use compare::{listing, proved};
@@ -13,7 +13,9 @@ use std::hint::black_box;
 use std::process::{Command, Stdio};
 
 const STATIONS: [usize; 4] = [2, 4, 6, 8];
-const EVENTS: [usize; 5] = [8, 16, 32, 64, 127];
+const EVENTS: [usize; 5] = [8, 16, 32, 64, PROGRAM.events];
+/// Those with a log of the operations' most events, which is past the program's.
+const LARGE: [usize; 2] = [4, 8];
 const QUESTIONS: usize = 16;
 /// Whole runs, each in a process of its own; how often one goes over all logs, and how often it lists.
 pub const RUNS: usize = 5;
@@ -125,7 +127,7 @@ pub fn micros(work: impl FnOnce()) -> f64 {
 
 /// The maximal cuts and the start, by a listing of every cut.
 fn list(data: &[u8]) -> (usize, bool) {
-    let log = Log::read(data).unwrap();
+    let log = Log::read(OPERATIONS, data).unwrap();
     let cuts = listing::consistent(&log);
     let truth = listing::truth(&log, &cuts, &mut Tokens(&log.questions[0]));
     (listing::maximal(&cuts, &truth).len(), truth[0])
@@ -141,11 +143,12 @@ struct Case {
 fn cases() -> Vec<Case> {
     let case = |stations, events| {
         let data = wide_log(stations, events, QUESTIONS);
-        let log = Log::read(&data).unwrap();
+        let log = Log::read(OPERATIONS, &data).unwrap();
         let listed = listing::count(&log) <= 100 * LISTED && listing::consistent(&log).len() <= LISTED;
         Case { stations, events, data, listed }
     };
-    STATIONS.iter().flat_map(|&stations| EVENTS.map(|events| case(stations, events))).collect()
+    let large = |stations: &usize| LARGE.contains(stations).then_some(OPERATIONS.events);
+    STATIONS.iter().flat_map(|s| EVENTS.into_iter().chain(large(s)).map(|events| case(*s, events))).collect()
 }
 
 /// The rounds of a question on average; the peers write the proved code's lines.
@@ -224,9 +227,9 @@ fn slope(points: &[(f64, f64)]) -> f64 {
     logs.iter().map(|p| (p.0 - mx) * (p.1 - my)).sum::<f64>() / logs.iter().map(|p| (p.0 - mx).powi(2)).sum::<f64>()
 }
 
-/// The exponent of a figure in events.
+/// The exponent of a figure in events, as far as the program goes.
 fn growth(rows: &[Row], stations: usize, figure: impl Fn(&Row) -> f64) -> f64 {
-    let some = rows.iter().filter(|r| r.stations == stations && r.events >= 16);
+    let some = rows.iter().filter(|r| r.stations == stations && (16..=PROGRAM.events).contains(&r.events));
     slope(&some.map(|r| (r.events as f64, figure(r))).collect::<Vec<_>>())
 }
 
@@ -240,7 +243,7 @@ pub fn growth_of_time(rows: &[Row], stations: usize, code: usize) -> Vec<f64> {
 }
 
 pub fn section(rows: &[Row]) -> String {
-    let mut page = String::from(include_str!("timed.md"));
+    let mut page = filled(include_str!("timed.md"));
     page += &head(format!("| stations | events | rounds | proved | {} | listing | {} |", names(), ratio_names()));
     for r in rows {
         let Row { stations, events, rounds, .. } = r;

@@ -7,6 +7,7 @@ mod sets;
 
 use basis::Finder;
 use cut::{contained, Cut};
+use compare::log::{OPERATIONS, PROGRAM};
 use read::Log;
 
 /// A frame as a line at the front of an output, its check byte added.
@@ -47,13 +48,13 @@ fn answer_question(log: &Log, finder: &mut Finder, q: usize, out: &mut [u8]) -> 
 
 /// The line of a question of an accepted log, at the front of an output.
 pub fn answer(data: &[u8], q: usize, out: &mut [u8]) -> usize {
-    let log = read::read(data).unwrap_or_else(|_| panic!("an accepted log"));
+    let log = read::read(OPERATIONS, data).unwrap_or_else(|_| panic!("an accepted log"));
     answer_question(&log, &mut Finder::new(&log), q, out)
 }
 
 /// What the program prints.
 pub fn printed(data: &[u8], out: &mut [u8]) -> usize {
-    match read::read(data) {
+    match read::read(PROGRAM, data) {
         Err((number, at)) => write_line([0x50, number].into_iter().chain(at.to_be_bytes()), out),
         Ok(log) => {
             let mut finder = Finder::new(&log);

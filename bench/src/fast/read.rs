@@ -1,6 +1,6 @@
 //! Reading: sixteen digits are decoded at once, and clocks are compared as whole cuts.
 use super::cut::{contained, count, decoded, join, Cut};
-use compare::log::{EVENTS, LOG, QUESTIONS, STATIONS};
+use compare::log::{Limits, QUESTIONS, STATIONS};
 
 /// A refusal's number and line.
 pub type Refusal = (u8, u16);
@@ -121,30 +121,29 @@ impl Formula<'_> {
     }
 }
 
+/// As many as a byte has numbers, so that any number of an event is a place.
+const PLACES: usize = 256;
+
 /// A log as far as it has been read.
 struct Reader {
+    most: usize,
     stations: usize,
     initial: [u16; STATIONS],
     events: usize,
     /// The empty cut, then the events' clocks in the order of the log; with their values.
-    clocks: [Cut; EVENTS + 1],
-    values: [u16; EVENTS + 1],
+    clocks: [Cut; PLACES],
+    values: [u16; PLACES],
     /// The place of each station's events among them.
-    at: [[u8; EVENTS + 1]; STATIONS],
+    at: [[u8; PLACES]; STATIONS],
     /// How many events of each station there are.
     counts: Cut,
     formulas: Vec<u8>,
     ends: Vec<usize>,
 }
 
-/// A number up to 127, as it is known to be.
-fn place(k: u8) -> usize {
-    (k & EVENTS as u8) as usize
-}
-
 impl Reader {
     fn clock(&self, station: usize, k: u8) -> Cut {
-        self.clocks[place(self.at[station][place(k)])]
+        self.clocks[self.at[station][k as usize] as usize]
     }
 
     fn header(&mut self, f: &[u8]) -> Result<(), u8> {
@@ -162,7 +161,7 @@ impl Reader {
     }
 
     fn event(&mut self, n: usize, frame: &Frame) -> Result<(), u8> {
-        if self.stations == 0 || !self.ends.is_empty() || self.events == EVENTS {
+        if self.stations == 0 || !self.ends.is_empty() || self.events == self.most {
             return Err(4);
         }
         let station = frame[1] as usize;
@@ -184,7 +183,7 @@ impl Reader {
         }
         self.counts += own;
         self.events += 1;
-        self.at[station][place(k + 1)] = self.events as u8;
+        self.at[station][k as usize + 1] = self.events as u8;
         self.clocks[self.events] = clock;
         self.values[self.events] = word(frame[2], frame[3]);
         Ok(())
@@ -208,30 +207,32 @@ impl Reader {
 
     /// The log, its events station by station.
     fn sorted(self) -> Log {
-        let (mut starts, mut values, mut before) = (Vec::with_capacity(EVENTS + 1), Vec::with_capacity(EVENTS + STATIONS), [0; STATIONS + 1]);
+        let (rows, mut before) = (self.events + 1, [0; STATIONS + 1]);
+        let (mut starts, mut values) = (Vec::with_capacity(rows), Vec::with_capacity(self.events + STATIONS));
         starts.push(0);
         for j in 0..self.stations {
             let events = &self.at[j][1..=count(self.counts, j) as usize];
-            starts.extend(events.iter().map(|&i| self.clocks[place(i)]));
+            starts.extend(events.iter().map(|&i| self.clocks[i as usize]));
             values.push(self.initial[j]);
-            values.extend(events.iter().map(|&i| self.values[place(i)]));
+            values.extend(events.iter().map(|&i| self.values[i as usize]));
             before[j + 1] = starts.len() - 1;
         }
         Log { stations: self.stations, starts, before, values, formulas: self.formulas, ends: self.ends }
     }
 }
 
-pub fn read(data: &[u8]) -> Result<Log, Refusal> {
-    if data.len() > LOG {
+pub fn read(limits: Limits, data: &[u8]) -> Result<Log, Refusal> {
+    if data.len() > limits.log {
         return Err((1, 0));
     }
     let mut reader = Reader {
+        most: limits.events,
         stations: 0,
         initial: [0; STATIONS],
         events: 0,
-        clocks: [0; EVENTS + 1],
-        values: [0; EVENTS + 1],
-        at: [[0; EVENTS + 1]; STATIONS],
+        clocks: [0; PLACES],
+        values: [0; PLACES],
+        at: [[0; PLACES]; STATIONS],
         counts: 0,
         formulas: Vec::with_capacity(QUESTIONS * LINE),
         ends: Vec::with_capacity(QUESTIONS),

@@ -37,13 +37,17 @@ pub struct Structure {
     pub bars: Vec<Cut>,
 }
 
-/// The rounds that a cut of the other side goes through, for each count at the range's station; 255 stands for none.
+/// The rounds that a cut of the other side goes through, for each count at the range's station; 255 stands for none. The first two are also
+/// the slots of a pair of other sets, one for each event and station.
 struct Tables {
-    above: [Cut; 256],
-    under: [Cut; 256],
-    kept: [Cut; 256],
-    rounds: [u32; 256],
+    above: [Cut; SLOTS],
+    under: [Cut; SLOTS],
+    kept: [Cut; COUNTS],
+    rounds: [u32; COUNTS],
 }
+
+const COUNTS: usize = 256;
+const SLOTS: usize = 512;
 
 impl Tables {
     fn put(&mut self, k: u8, e: &Entry) {
@@ -86,7 +90,7 @@ pub struct Sets<'a> {
 
 impl<'a> Sets<'a> {
     pub fn new(log: &'a Log) -> Self {
-        Sets { log, rounds: 0, tables: Tables { above: [0; 256], under: [0; 256], kept: [0; 256], rounds: [0; 256] } }
+        Sets { log, rounds: 0, tables: Tables { above: [0; SLOTS], under: [0; SLOTS], kept: [0; COUNTS], rounds: [0; COUNTS] } }
     }
 
     /// Lays the rows of a range.
@@ -132,7 +136,8 @@ impl<'a> Sets<'a> {
         }
     }
 
-    /// The rows of a pair. Those of the left are laid.
+    /// The rows of a pair. Those of the left are laid. Not put into its caller, so that its instructions can be told.
+    #[inline(never)]
     pub fn intersect(&mut self, left: &Structure, right: &Structure, out: &mut [Cut]) {
         match (left.range, right.range) {
             (_, Some(range)) => self.right_range(&left.rows, range, out),
@@ -217,11 +222,11 @@ impl<'a> Sets<'a> {
                 slots[place] = rows[0];
                 slots[place + 1..][..events].copy_from_slice(log.rows(rows, j));
             }
-            places[j] = place as u8;
+            places[j] = place;
         }
-        let raise = |slots: &[Cut; 256], c: Cut| {
+        let raise = |slots: &[Cut; SLOTS], c: Cut| {
             let c = c.to_le_bytes();
-            (0..8).fold(0, |d, j| join(d, slots[places[j].wrapping_add(c[j]) as usize]))
+            (0..8).fold(0, |d, j| join(d, slots[(places[j] + c[j] as usize) % SLOTS]))
         };
         let go = |mut l: Cut| {
             for round in 1.. {

@@ -5,7 +5,7 @@ ghost use mathlib.Core.Path.{_≡_};
 ghost use mathlib.Core.List.{List};
 ghost use Prim.Native.Nat.{ℕ, _+_, _*_, _≤_, _<_};
 ghost use lib.ListN.{length};
-ghost use Rattle.model.specs.Limits.{limits, storeSize, workspaceSize, barspaceSize};
+ghost use Rattle.model.specs.Limits.{limits, printLimits, storeSize, workspaceSize, barspaceSize};
 ghost use Rattle.model.specs.Formula.{Formula};
 ghost use Rattle.model.specs.Computation.{Computation};
 ghost use Rattle.model.specs.Forecast.{forecast};
@@ -81,7 +81,7 @@ fn print_questions(
     bs: &mut [u8],
 )
     requires { ⌜ (loaded .length ≤ length (now list)) × (workspaceSize ≤ length (now ws)) × (barspaceSize ≤ length (now bs)) ⌝ }
-    requires { ⌜ Prepared limits loaded (now list) x (now starts) (now facts) ⌝ }
+    requires { ⌜ Prepared printLimits loaded (now list) x (now starts) (now facts) ⌝ }
 {
     let s = loaded.state;
     let mut i = 0;
@@ -95,7 +95,7 @@ fn print_questions(
 // The same for a log that is loaded.
 fn print_loaded(list: &[u8], store: &[u8], loaded: load::Loaded)
     requires { ⌜ (loaded .length ≤ length (now list)) × (length (now store) ≡ storeSize) ⌝ }
-    requires { ⌜ ((log : List ℕ) × Accepts limits log (loaded .state) (loaded .length) (now list) (now store)) ⌝ }
+    requires { ⌜ ((log : List ℕ) × Accepts printLimits log (loaded .state) (loaded .length) (now list) (now store)) ⌝ }
 {
     let mut starts = [0u8; Log::STARTS];
     let mut facts = [0u16; Log::FACTS];
@@ -110,7 +110,7 @@ pub fn print_case(log: &[u8]) {
     io::write_all(1, b"\n");
     let mut list = [0u8; Log::LIST];
     let mut store = [0u8; Log::STORE];
-    let loaded = load::load(Log::limits(), log, &mut list, &mut store);
+    let loaded = load::load(Log::print_limits(), log, &mut list, &mut store);
     let outcome = loaded.outcome;
     match outcome {
         load::Acceptance::Refused(refusal) => {

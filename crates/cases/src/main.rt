@@ -13,7 +13,10 @@ use trial::Case;
 const OUTPUT: usize = Log::BYTES + 8;
 
 // The most that is read.
-const INPUT: usize = 0x0020_0000;
+const INPUT: usize = 0x0030_0000;
+
+// Cells for every question of every accepted log.
+const WORKSPACE: usize = Log::HELD * Log::STATIONS * (Log::EVENTS + 1);
 
 // Reads the log of a case.
 fn read_case(log: &[u8], out: &mut [u8]) {
@@ -99,7 +102,7 @@ fn forecast_case(log: &[u8], question: usize) -> usize {
 
 // Answers a question of the log in a workspace of so many cells.
 fn answer_within(log: &[u8], question: usize, cells: usize) {
-    if Log::WORKSPACE < cells {
+    if WORKSPACE < cells {
         return;
     }
     let mut ws = lent_workspace();
@@ -149,8 +152,8 @@ fn run_case(c: Case, cut: &[u8], data: &[u8], ws: &mut [u8], bs: &mut [u8], out:
 }
 
 // The spaces and the input's room are made here, so that no other proof has to look at their cells.
-fn lent_workspace() -> [u8; Log::WORKSPACE] {
-    [trial::LENT; Log::WORKSPACE]
+fn lent_workspace() -> [u8; WORKSPACE] {
+    [trial::LENT; WORKSPACE]
 }
 
 fn lent_bars() -> [u8; Log::BARSPACE] {
@@ -175,7 +178,7 @@ fn lend(c: Case, cut: &[u8], data: &[u8]) {
     let mut bs = lent_bars();
     let mut out = lent_output();
     let cells = c.cells;
-    if Log::WORKSPACE < cells {
+    if WORKSPACE < cells {
         return;
     }
     let bars = Log::BARSPACE - c.short % 2;

@@ -96,6 +96,13 @@ admitted m r s (k ∷ f) e =
     cases (eqb k 0x30) e (λ t e. rw (eqb-true k 0x30 t) (by-question m r s f e)) (λ t e.
     fault-go e)))
 
+-- A frame that passed the tests of its kind is let in.
+pub admission-go : {m : Limits} {r s : Reading} {f : List ℕ} → Admission m r f s → admit m r f ≡ go s
+unfolding admit admitHeader admitEvent admitQuestion asked check
+admission-go (a-header a b) = rw (a, b)
+admission-go (a-event a b c d e) = rw (a, b, c, d, e)
+admission-go (a-question a b c d e) = rw (a, b, c, d, e)
+
 -- WHAT THE TESTS SAY
 
 pub begun-true : (r : Reading) → begun r ≡ true → 0 < stations (r .computation)
@@ -135,12 +142,12 @@ event-true n f h = let t = and-true (eqb (length f) (n + 3)) (ltb (stationOf f) 
 pub refused-accepted : {B : Type 0} {k n : ℕ} {r : Reading} → refused k n ≡ accepted r → B
 refused-accepted e = let z : _≡_ {A = ℕ} 0 1 = cc in absurd (omega arith)
 
-proceed-accepted : (on : Reading → Result) (n : ℕ) (t : Step) (s : Reading) → proceed on n t ≡ accepted s → (u : Reading) × (t ≡ go u) × (on u ≡ accepted s)
+pub proceed-accepted : (on : Reading → Result) (n : ℕ) (t : Step) (s : Reading) → proceed on n t ≡ accepted s → (u : Reading) × (t ≡ go u) × (on u ≡ accepted s)
 unfolding proceed
 proceed-accepted on n (go u) s e = (u, refl, e)
 proceed-accepted on n (fault k) s e = refused-accepted e
 
-finish-accepted : (r s : Reading) → finish r ≡ accepted s → (r ≡ s) × (begun s ≡ true)
+pub finish-accepted : (r s : Reading) → finish r ≡ accepted s → (r ≡ s) × (begun s ≡ true)
 unfolding finish
 finish-accepted r s e = cases (begun r) e (λ b e. let n : r ≡ s = cc in (n, sym (ap begun n) ∙ b)) (λ b e. refused-accepted e)
 
@@ -168,7 +175,7 @@ accepted-begun m n r s (frame f ∷ l) e =
     let x = proceed-accepted _ n (admit m r f) s e in
     accepted-begun m (suc n) (x .0) s l (x .2)
 
-admitted-frames : {m : Limits} {r s : Reading} {f : List ℕ} → Admission m r f s → s .frames ≡ r .frames ++ (f ∷ [])
+pub admitted-frames : {m : Limits} {r s : Reading} {f : List ℕ} → Admission m r f s → s .frames ≡ r .frames ++ (f ∷ [])
 admitted-frames (a-header h g) = refl
 admitted-frames (a-event h g k t u) = refl
 admitted-frames (a-question h g k t u) = refl

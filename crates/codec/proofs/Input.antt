@@ -18,7 +18,7 @@ pub read-long : (m : Limits) (log : List ℕ) → m .bytes < length log → read
 unfolding readLog
 read-long m log h = rw (lt-leb (length log) (m .bytes) h)
 
-printed-long : (log : List ℕ) → printLimits .bytes < length log → printed log ≡ printedOf (refused 1 0)
+pub printed-long : (log : List ℕ) → printLimits .bytes < length log → printed log ≡ printedOf (refused 1 0)
 unfolding printed
 printed-long log h = ap printedOf (read-long printLimits log h)
 

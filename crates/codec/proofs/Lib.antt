@@ -19,5 +19,6 @@ pub mod Operations
 pub mod Suited
 pub mod Demands
 pub mod Forecast
-pub mod Printed
 pub mod Input
+pub mod Larger
+pub mod Printed

@@ -13,7 +13,8 @@ use Rattle.model.specs.Operations.{answerLines, printedOf, printed}
 use Rattle.model.specs.Promise.{Asked, Prints}
 use Rattle.codec.proofs.Cases.{none-some}
 use Rattle.codec.proofs.Demands.{asked-answered, asked-written}
-use Rattle.codec.proofs.Suited.{print-suitable}
+use Rattle.codec.proofs.Suited.{suitable, print-suitable, print-within}
+use Rattle.codec.proofs.Larger.{asked-up}
 
 -- The line to a question.
 abbrev lineTo : Computation → Formula → List ℕ
@@ -47,5 +48,5 @@ module _ (log : List ℕ) (r : Reading) (e : readLog printLimits log ≡ accepte
     unchanged = λ q f line i j ws bs out hw hb ho.
         let x = line-at (r .computation) (r .questions) q line j in
         let same : x .0 ≡ f = cc in
-        rw (x .2, same) (asked-written print-suitable (asked q f i) ws bs hw hb out ho);
+        rw (x .2, same) (asked-written suitable (asked-up print-within (asked q f i)) ws bs hw hb out ho);
   }

@@ -1,11 +1,11 @@
--- What is forecast of an accepted question is small: its figures fit the bits that they are handed back in, and its cells the largest workspace.
+-- What is forecast of an accepted question is small: its figures fit the bits that they are handed back in, and its cells the program's workspace.
 use mathlib.Core.Path.{_≡_}
 use Prim.Native.Nat.{suc, _+_, _*_, _≤_}
 use native.Mathlib.Omega.{arith}
 use native.Mathlib.Nat.{le-trans, mul-le-mul}
 use mathlib.Core.Bool.{true}
 use Rattle.model.specs.declared.Forecast.{Forecast}
-use Rattle.model.specs.Limits.{limits, workspaceSize}
+use Rattle.model.specs.Limits.{printLimits, mostHeld, workspaceSize}
 use Rattle.model.specs.Formula.{Formula, signs}
 use Rattle.model.specs.Computation.{Computation, stations, eventCount}
 use Rattle.model.specs.Rules.{Normal, asTrue}
@@ -30,8 +30,8 @@ most-bars (impossible p) h = let n = narrow-impossible p h in omega (arith, n .0
 pub record Low (c : Forecast) : Type 0 where
   pub width : c .width ≤ 16
   pub bars : c .bars ≤ 16
-  pub held : c .held ≤ 54
-  pub cells : c .cells ≤ 54 * 8 * 255
+  pub held : c .held ≤ mostHeld
+  pub cells : c .cells ≤ mostHeld * 8 * 255
   pub ceiling : c .ceiling ≤ 16 * 11 * (255 * 255)
 
 -- Those of a question that fits, which has at most 11 signs, with at most 254 events.
@@ -48,7 +48,7 @@ forecast-low K f h n e = record {
     slender : narrow (asTrue f) ≡ true
     slender = fits-to f h .2
 
--- Its cells are within the largest workspace.
-pub workspace-fits : (K : Computation) (f : Formula) → fits f ≡ true → stations K ≤ limits .stations → eventCount K ≤ limits .events → forecast K f .cells ≤ workspaceSize
+-- Its cells are within the program's workspace, with at most as many events as the program takes.
+pub workspace-fits : (K : Computation) (f : Formula) → fits f ≡ true → stations K ≤ printLimits .stations → eventCount K ≤ printLimits .events → forecast K f .cells ≤ workspaceSize
 unfolding forecast
-workspace-fits K f h n e = le-trans (mul-le-mul {m₂ = limits .events + 1} (mul-le-mul (held-le f h) n) (omega arith)) (omega arith)
+workspace-fits K f h n e = mul-le-mul {m₂ = printLimits .events + 1} (mul-le-mul (held-le f h) n) (omega arith)

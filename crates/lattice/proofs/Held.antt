@@ -1,4 +1,4 @@
--- The structures held while a question is worked out: each step's need is within the figure, and an accepted question's figure is at most 54.
+-- The structures held while a question is worked out: each step's need is within the figure, and an accepted question's figure has its bound.
 -- A width is at most 16, and at most the atoms if these are fewer than 5: so 5 * width ≤ 16 * atoms, and 5 * held ≤ 16 * atoms + 80.
 use mathlib.Core.Path.{_≡_}
 use mathlib.Core.Logic.{_⊎_, inl, inr}
@@ -9,7 +9,7 @@ use native.Mathlib.Decide.{decLe}
 use mathlib.Core.Bool.{true, _&&_}
 use lib.Dec.{leb}
 use borrow.Author.Tests.{leb-true}
-use Rattle.model.specs.Limits.{limits, barspaceSize}
+use Rattle.model.specs.Limits.{limits, barspaceSize, mostHeld}
 use Rattle.model.specs.Formula.{Formula, tokens, atoms, signs}
 use Rattle.model.specs.Rules.{Normal, asTrue}
 use Rattle.model.specs.Rules.Normal.{literal, both, either, possible, impossible}
@@ -124,12 +124,12 @@ fits-signs f h = omega (arith, signs-atoms f, fits-to f h .1)
 pub held-atoms : (f : Formula) → fits f ≡ true → 5 * held (asTrue f) ≤ 16 * atoms f + 80
 held-atoms f h = rw (weight-true 1 0 f) at (five-held (asTrue f) (fits-to f h .2))
 
--- At most 54 structures are held.
-pub held-le : (f : Formula) → fits f ≡ true → held (asTrue f) ≤ 54
+-- As many structures are held at most.
+pub held-le : (f : Formula) → fits f ≡ true → held (asTrue f) ≤ mostHeld
 held-le f h = omega (arith, held-atoms f h, fits-to f h .1)
 
 -- The bar space suffices.
 pub barspace-fits : (f : Formula) → fits f ≡ true → (n : ℕ) → n ≤ limits .stations → held (asTrue f) * (16 * n) ≤ barspaceSize
 barspace-fits f h n a =
-    let d : held (asTrue f) * (16 * n) ≤ 54 * (16 * limits .stations) = mul-le-mul {n₁ = held (asTrue f)} {m₁ = 16 * n} {n₂ = 54} {m₂ = 16 * limits .stations} (held-le f h) (omega arith) in
+    let d : held (asTrue f) * (16 * n) ≤ mostHeld * (16 * limits .stations) = mul-le-mul {n₁ = held (asTrue f)} {m₁ = 16 * n} {n₂ = mostHeld} {m₂ = 16 * limits .stations} (held-le f h) (omega arith) in
     omega (arith, d)

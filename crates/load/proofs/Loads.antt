@@ -9,7 +9,7 @@ use lib.ListN.{length, take, drop}
 use lib.Seq.{length-take-le, drop-drop}
 use Rattle.model.specs.declared.Limits.{Limits}
 use Rattle.model.specs.declared.Refusal.{Refusal}
-use Rattle.model.specs.Limits.{limits}
+use Rattle.model.specs.Limits.{limits, printLimits}
 use Rattle.model.specs.Bytes.{linesOf, Item, frame, bad, items}
 use Rattle.model.specs.Lists.{sum}
 use Rattle.model.specs.Frames.{listOf}
@@ -17,6 +17,7 @@ use Rattle.model.specs.Reading.{Reading, nothing, Result, refused, accepted, ad
 use Rattle.model.specs.Reply.{number}
 use Rattle.model.specs.declared.Fault.{Fault}
 use Rattle.codec.specs.Limits.{NoLarger}
+use Rattle.codec.proofs.Suited.{same-within, print-within}
 use Rattle.cells.specs.Put.{putOf}
 use Rattle.walk.specs.Walked.{Framed, Spoilt}
 use Rattle.cells.proofs.Puts.{take-put, length-put, drop-put}
@@ -271,4 +272,7 @@ module _ (m : Limits) (o : Acceptance) (log : List ℕ) (s : State) (k : ℕ) (l
 
 -- the limits as the code hands them over
 pub no-larger : (m : Limits) → m ≡ limits → NoLarger m limits
-no-larger m e = rw e (record { stations = omega arith; events = omega arith; questions = omega arith; bytes = omega arith; list = omega arith })
+no-larger m e = rw e same-within
+
+pub print-no-larger : (m : Limits) → m ≡ printLimits → NoLarger m limits
+print-no-larger m e = rw e print-within

@@ -7,11 +7,11 @@ use Prim.Native.String.{String}
 use mathlib.Core.List.{List, [], _∷_, _++_}
 use mathlib.Core.Bool.{true, false}
 use lib.ListN.{drop, replicate}
-use Rattle.model.specs.Limits.{limits, workspaceSize, barspaceSize, lineSize}
+use Rattle.model.specs.Limits.{limits, printLimits, workspaceSize, barspaceSize, lineSize}
 use Rattle.model.specs.Lists.{sum, between, every}
 use Rattle.model.specs.Bytes.{push, linesOf, digit, byte, bytes, carried, items, hexDigit, hex, checkByte, line}
 use Rattle.model.specs.Looks.{own, wellFormed}
-use Rattle.model.specs.Frames.{word, words, listOf}
+use Rattle.model.specs.Frames.{word, words, logOf, listOf, before, entry, split, framesIn, framesOf}
 use Rattle.model.specs.Atom.{atomBytes, operands, atomOf, soundAtom, within, next, upTo, raiseTo, passes, raiseAtom}
 use Rattle.model.specs.Atom.Atom.{inRange}
 use Rattle.model.specs.Formula.{Formula, prefix, ahead, one, two, sign, token, spelt, formulasIn, single, formulaOf, sound, weigh}
@@ -25,10 +25,10 @@ use Rattle.model.specs.Structure.{row, joined, raiseBy, raise, reaches, 
 use Rattle.model.specs.Basis.{thenRight, round, onward, after, run, start, intersect, each, pairs, below, lowered, barred, basis}
 use Rattle.model.specs.Rounds.{roundsOfPair, roundsOfPairs, rounds}
 use Rattle.model.specs.Answer.{notInside, add, tops, precedes, insert, sort, trueAt, answer, inRow, fourBytes, answerLine, refusalLine}
-use Rattle.model.specs.Reading.{begun, check, headerForm, opened, admitHeader, eventForm, extended, unasked, admitEvent, asked, admitQuestion, admit, finish, proceed, readItems, readLog}
+use Rattle.model.specs.Reading.{Reading, begun, fault, check, headerForm, opened, admitHeader, eventForm, extended, unasked, admitEvent, asked, admitQuestion, admit, finish, proceed, readItems, readLog, readFrames, readList}
 use Rattle.model.specs.Reply.{Reply, gives, refuses}
 use Rattle.model.specs.Promise.{Asked}
-use Rattle.model.specs.Operations.{readEffect, readOp, posing, openingOf, opening, cramped, forecastReplyTo, forecastOp, lineEffect, answerEffect, answerOp, holdsReplyTo, holdsOp, answerLines, printedOf, printed}
+use Rattle.model.specs.Operations.{readEffect, readOp, posing, openingOf, opening, cramped, forecastReplyTo, forecastOp, lineEffect, answerEffect, answerOp, holdsReplyTo, holdsOp, writeEffect, writeOp, answerLines, printedOf, printed}
 
 -- The bytes of a text.
 pub ascii : String → List ℕ
@@ -71,9 +71,13 @@ two-ways = or (range 0 5 5) (range 0 5 5)
 pub three-ways : Formula
 three-ways = or (range 0 5 5) two-ways
 
+-- What has been read after k events of one station.
+pub after-events : ℕ → Reading
+after-events k = record { computation = record { initial = 0 ∷ []; events = replicate k (record { value = 0; clock = [] }) ∷ [] }; questions = []; frames = [] }
+
 -- All that is computed with: to unfold this is to unfold what its line names.
 definitions : Unit {0}
-unfolding ascii range bench Q asking holdsAt two-ways three-ways sum between every push linesOf digit byte bytes carried items own wellFormed hexDigit hex checkByte line word words listOf atomBytes operands atomOf soundAtom within next upTo raiseTo passes raiseAtom prefix ahead one two sign token spelt formulasIn single formulaOf sound weigh inside insideAny join clock value known isConsistent counted clockOk asTrue asFalse width bars held slim narrow fits row joined raiseBy raise reaches inSet belongs belongsAny joinRow joinRows greatest keep buildOn build thenRight round onward after run start intersect each pairs below lowered barred basis roundsOfPair roundsOfPairs rounds notInside add tops precedes insert sort trueAt answer inRow fourBytes answerLine refusalLine begun check headerForm opened admitHeader eventForm extended unasked admitEvent asked admitQuestion admit finish proceed readItems readLog readEffect readOp posing openingOf opening cramped forecastReplyTo forecastOp lineEffect answerEffect answerOp holdsReplyTo holdsOp answerLines printedOf printed mostBars ceiling forecast
+unfolding ascii range bench Q asking holdsAt two-ways three-ways after-events sum between every push linesOf digit byte bytes carried items own wellFormed hexDigit hex checkByte line word words logOf listOf before entry split framesIn framesOf atomBytes operands atomOf soundAtom within next upTo raiseTo passes raiseAtom prefix ahead one two sign token spelt formulasIn single formulaOf sound weigh inside insideAny join clock value known isConsistent counted clockOk asTrue asFalse width bars held slim narrow fits row joined raiseBy raise reaches inSet belongs belongsAny joinRow joinRows greatest keep buildOn build thenRight round onward after run start intersect each pairs below lowered barred basis roundsOfPair roundsOfPairs rounds notInside add tops precedes insert sort trueAt answer inRow fourBytes answerLine refusalLine begun check headerForm opened admitHeader eventForm extended unasked admitEvent asked admitQuestion admit finish proceed readItems readLog readFrames readList readEffect readOp posing openingOf opening cramped forecastReplyTo forecastOp lineEffect answerEffect answerOp holdsReplyTo holdsOp writeEffect writeOp answerLines printedOf printed mostBars ceiling forecast
 definitions = tt
 
 -- The twelve cases marked *.
@@ -146,6 +150,25 @@ pub forecasts :
     × (holdsOp limits (asking Q) 0 (1 ∷ 1 ∷ []) 23 barspaceSize ≡ refuses 11 0)
 unfolding definitions
 forecasts = (refl, refl, refl, refl, refl, refl, refl, refl, refl, refl, refl)
+
+-- The limits, on either side: an event, malformed, after 126 and 127 in the program, after 253 and 254 in the operations; bytes of a log; bytes of the outputs of Read and Write and of a frame list.
+pub sizes :
+    (admit printLimits (after-events 126) (0x20 ∷ []) ≡ fault 6)
+    × (admit printLimits (after-events 127) (0x20 ∷ []) ≡ fault 4)
+    × (admit limits (after-events 253) (0x20 ∷ []) ≡ fault 6)
+    × (admit limits (after-events 254) (0x20 ∷ []) ≡ fault 4)
+    × (printed (replicate 8192 0x0A) ≡ ascii "50020001AD\n")
+    × (printed (replicate 8193 0x0A) ≡ ascii "50010000AF\n")
+    × (readOp limits (replicate 16384 0x0A) [] .reply ≡ refuses 2 1)
+    × (readOp limits (replicate 16385 0x0A) [] .reply ≡ refuses 1 0)
+    × (readOp limits bench (replicate 8192 0) .reply ≡ gives (2 ∷ 3 ∷ 0 ∷ 28 ∷ []))
+    × (readOp limits bench (replicate 8191 0) .reply ≡ refuses 12 0)
+    × (writeOp limits (6 ∷ 0x10 ∷ 2 ∷ 0 ∷ 0 ∷ 0 ∷ 0 ∷ []) (replicate 16384 0) .reply ≡ gives (15 ∷ []))
+    × (writeOp limits (6 ∷ 0x10 ∷ 2 ∷ 0 ∷ 0 ∷ 0 ∷ 0 ∷ []) (replicate 16383 0) .reply ≡ refuses 12 0)
+    × (writeOp limits (replicate 8192 1) [] .reply ≡ refuses 4 1)
+    × (writeOp limits (replicate 8194 1) [] .reply ≡ refuses 14 0)
+unfolding definitions
+sizes = (refl, refl, refl, refl, refl, refl, refl, refl, refl, refl, refl, refl, refl, refl)
 
 -- What is promised of accepted logs and their questions is promised of this one.
 pub bench-asked : Asked limits (asking Q) 0 benched Q

@@ -2,13 +2,13 @@
 use Prim.Native.Nat.{ℕ, _+_, _*_}
 use Rattle.model.specs.declared.Limits.{Limits}
 
--- Of the operations: 1 to 8 stations, 0 to 127 events, 0 to 16 questions, a log of at most 8,192 bytes, a frame list of at most 4,096.
+-- Of the operations: 1 to 8 stations, 0 to 254 events, 0 to 16 questions, a log of at most 16,384 bytes, a frame list of at most 8,192.
 abbrev pub limits : Limits
-limits = record { stations = 8; events = 127; questions = 16; bytes = 8192; list = 4096 }
+limits = record { stations = 8; events = 254; questions = 16; bytes = 16384; list = 8192 }
 
--- Of the printing program: the same.
+-- Of the printing program, and of the operations before document 02 raised theirs: 127 events, a log of at most 8,192 bytes, a frame list of at most 4,096.
 abbrev pub printLimits : Limits
-printLimits = limits
+printLimits = record { stations = 8; events = 127; questions = 16; bytes = 8192; list = 4096 }
 
 -- LENT BY THE CALLER: cells of the bar space, bytes of the output for an answer line
 abbrev pub barspaceSize : ℕ
@@ -19,9 +19,13 @@ lineSize = 273
 
 -- LENT BY THE OPERATIONS TO WHAT THEY CALL
 
--- A workspace in which any question of a log can be worked out, whatever it takes.
+-- The structures that are held at a time for a question: never more.
+abbrev pub mostHeld : ℕ
+mostHeld = 54
+
+-- The program's workspace, in which any question of a log within its limits can be worked out.
 abbrev pub workspaceSize : ℕ
-workspaceSize = 65536
+workspaceSize = mostHeld * printLimits .stations * (printLimits .events + 1)
 
 -- The bytes of an event's slot: its value in two, its clock in one for each station.
 abbrev pub slotSize : ℕ

@@ -1,13 +1,13 @@
 -- What is promised of the operations and of the program: demands 2 and 3, by truth at cuts, and what a forecast is good for.
 use mathlib.Core.Path.{_≡_}
 use mathlib.Core.Logic.{_↔_, _⊎_}
-use Prim.Native.Nat.{ℕ, suc, _*_, _^_, _≤_, _<_}
+use Prim.Native.Nat.{ℕ, suc, _+_, _*_, _^_, _≤_, _<_}
 use mathlib.Core.Bool.{Bool, true}
 use mathlib.Core.List.{List, [], _∷_}
 use mathlib.Core.Option.{some}
 use lib.ListN.{length, take, getElem?}
 use Rattle.model.specs.declared.Limits.{Limits}
-use Rattle.model.specs.Limits.{limits, barspaceSize, lineSize}
+use Rattle.model.specs.Limits.{limits, printLimits, barspaceSize, lineSize}
 use Rattle.model.specs.Lists.{Some, Member}
 use Rattle.model.specs.Formula.{Formula, signs}
 use Rattle.model.specs.Cut.{Cut, _!_, _⊑_, empty}
@@ -16,10 +16,10 @@ use Rattle.model.specs.Truth.{True}
 use Rattle.model.specs.Rules.{asTrue}
 use Rattle.model.specs.Forecast.{forecast}
 use Rattle.model.specs.Rounds as rule
-use Rattle.model.specs.Answer.{precedes, inRow, answerLine}
-use Rattle.model.specs.Reading.{Reading, accepted, readLog}
+use Rattle.model.specs.Answer.{precedes, inRow, answerLine, refusalLine}
+use Rattle.model.specs.Reading.{Reading, accepted, readLog, readList}
 use Rattle.model.specs.Reply.{Reply, gives, refuses, figures}
-use Rattle.model.specs.Operations.{write, readOp, answerOp, holdsOp, writeOp, printed}
+use Rattle.model.specs.Operations.{write, readOp, forecastOp, answerOp, holdsOp, writeOp, answerLines, printed}
 
 -- The log is accepted under the limits m, K is its computation, and f its question number q.
 pub record Asked (m : Limits) (log : List ℕ) (q : ℕ) (K : Computation) (f : Formula) : Type 0 where
@@ -109,7 +109,20 @@ Reread m list reply output =
     → m .list ≤ length buffer
     → (n e q : ℕ) × (readOp m (take size output) buffer ≡ write (n ∷ e ∷ q ∷ length list ∷ []) list buffer)
 
--- THE PROGRAM, for an accepted log of which r was read
+-- LOGS OF BOTH SIZES, for a log accepted under the limits m, of which r was read: under the limits m′ it is as it was
+pub record Stays (m m′ : Limits) (log : List ℕ) (r : Reading) : Type 0 where
+  -- it is accepted, and the same is read of it
+  pub accepts : readLog m′ log ≡ accepted r
+  -- Read, lent what m′ asks for, hands back the same and writes the same list
+  pub lists : (output : List ℕ) → m′ .list ≤ length output → readOp m′ log output ≡ readOp m log output
+  -- Forecast, Answer and Holds reply the same and write the same bytes
+  pub forecasts : (q : ℕ) → forecastOp m′ log q ≡ forecastOp m log q
+  pub answers : (q workspace barspace : ℕ) (output : List ℕ) → answerOp m′ log q workspace barspace output ≡ answerOp m log q workspace barspace output
+  pub tests : (q : ℕ) (c : Cut) (workspace barspace : ℕ) → holdsOp m′ log q c workspace barspace ≡ holdsOp m log q c workspace barspace
+  -- Write, lent what m′ asks for, writes the same log of every list of which the same is read
+  pub writes : (list output : List ℕ) → readList m list ≡ accepted r → m′ .bytes ≤ length output → writeOp m′ list output ≡ writeOp m list output
+
+-- THE PROGRAM, for a log that it accepts, of which r was read
 pub record Prints (log : List ℕ) (r : Reading) : Type 0 where
   -- lines one after another, one a question
   pub lines : List (List ℕ)
@@ -121,3 +134,12 @@ pub record Prints (log : List ℕ) (r : Reading) : Type 0 where
   pub unchanged : (q : ℕ) (f : Formula) (line : List ℕ) → getElem? (r .questions) q ≡ some f → getElem? lines q ≡ some line
       → (workspace barspace : ℕ) (output : List ℕ) → forecast (r .computation) f .cells ≤ workspace → barspaceSize ≤ barspace → lineSize ≤ length output
       → answerOp limits log q workspace barspace output ≡ write (length line ∷ []) line output
+
+-- THE PROGRAM'S OWN SIZE, for a log that the operations accept, of which r was read
+pub record Sized (log : List ℕ) (r : Reading) : Type 0 where
+  -- a log within the program's limits is answered
+  pub answered : length log ≤ printLimits .bytes → eventCount (r .computation) ≤ printLimits .events → printed log ≡ answerLines (r .computation) (r .questions)
+  -- more bytes are refused with 1
+  pub too-long : printLimits .bytes < length log → printed log ≡ refusalLine 1 0
+  -- more events are refused with 4, at the line of the first too many, which stands behind the header and the events that the program takes
+  pub too-many : length log ≤ printLimits .bytes → printLimits .events < eventCount (r .computation) → printed log ≡ refusalLine 4 (printLimits .events + 2)

@@ -2,7 +2,7 @@
 ghost use mathlib.Core.Path.{_≡_};
 ghost use mathlib.Core.List.{[], _∷_};
 ghost use lib.ListN.{replicate};
-ghost use Rattle.model.specs.Limits.{limits};
+ghost use Rattle.model.specs.Limits.{limits, printLimits};
 ghost use Rattle.model.specs.Answer.{yesNo};
 ghost use Rattle.model.specs.Reply.{gives, number, holdsReply};
 
@@ -26,21 +26,31 @@ pub struct Log {
 impl Log {
     pub const STATIONS: usize = 8;
 
-    pub const EVENTS: usize = 127;
+    pub const EVENTS: usize = 254;
 
     pub const QUESTIONS: usize = 16;
 
-    pub const BYTES: usize = 8192;
+    pub const BYTES: usize = 16384;
 
-    pub const LIST: usize = 4096;
+    pub const LIST: usize = 8192;
 
-    // The cells of the bar space, of a workspace in which any question of a log can be worked out, and the bytes of the longest
-    // answer line.
+    // Of the printing program.
+    pub const PRINT_EVENTS: usize = 127;
+
+    pub const PRINT_BYTES: usize = 8192;
+
+    pub const PRINT_LIST: usize = 4096;
+
+    // The cells of the bar space, and the bytes of the longest answer line.
     pub const BARSPACE: usize = 8192;
 
-    pub const WORKSPACE: usize = 65536;
-
     pub const LINE: usize = 273;
+
+    // The structures that are held at a time for a question: never more. The program's workspace, in which any question of a log within
+    // its limits can be worked out.
+    pub const HELD: usize = 54;
+
+    pub const WORKSPACE: usize = Log::HELD * Log::STATIONS * (Log::PRINT_EVENTS + 1);
 
     // The most that is printed: an answer line for each question.
     pub const PRINTED: usize = Log::QUESTIONS * Log::LINE;
@@ -75,6 +85,19 @@ impl Log {
             questions: Log::QUESTIONS,
             bytes: Log::BYTES,
             list: Log::LIST,
+        }
+    }
+
+    // The printing program's likewise.
+    pub fn print_limits() -> Limits
+        ensures { λ r. ⌜ r ≡ printLimits ⌝ }
+    {
+        Limits {
+            stations: Log::STATIONS,
+            events: Log::PRINT_EVENTS,
+            questions: Log::QUESTIONS,
+            bytes: Log::PRINT_BYTES,
+            list: Log::PRINT_LIST,
         }
     }
 

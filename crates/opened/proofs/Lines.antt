@@ -15,7 +15,7 @@ use Rattle.model.specs.Formula.{Formula, prefix}
 use Rattle.model.specs.Computation.{Computation}
 use Rattle.model.specs.Answer.{answer, answerLine}
 use Rattle.model.specs.Operations.{answerLines}
-use Rattle.codec.proofs.Suited.{suitable}
+use Rattle.codec.proofs.Suited.{print-suitable}
 use Rattle.codec.proofs.Demands.{asked-line-fits}
 use Rattle.load.specs.declared.Loaded.{Loaded}
 use Rattle.load.specs.Loading.{Accepts, Loads}
@@ -75,7 +75,7 @@ module _ {l : Loaded} {list : List ℕ} {x : Shape} {starts facts : List ℕ} (o
 
   -- One more line, within the size of a line.
   pub line-short : Prepared printLimits l list x starts facts → r ≤ lineSize
-  line-short p = omega (arith, written p .size, asked-line-fits suitable (is-asked (p .accepts) i (there p .0) (there p .1)))
+  line-short p = omega (arith, written p .size, asked-line-fits print-suitable (is-asked (p .accepts) i (there p .0) (there p .1)))
 
   pub printing-more : {was : List ℕ} → Printing l list x starts facts was out end i → Printing l list x starts facts was (putMid end (length out - end) out part) (end + r) (i + 1)
   printing-more {was} g = record {

@@ -13,7 +13,7 @@ use Rattle.model.specs.Lists.{total}
 use Rattle.model.specs.Formula.{Formula, prefix, sound}
 use Rattle.model.specs.Size.{fits}
 use Rattle.model.specs.Cut.{Cut}
-use Rattle.model.specs.Computation.{stations, count, full, isConsistent}
+use Rattle.model.specs.Computation.{stations, count, eventCount, full, isConsistent}
 use Rattle.model.specs.Promise.{Asked}
 use Rattle.lattice.proofs.Consistency.{consistent-iff}
 use Rattle.lattice.proofs.Lists.{all-at}
@@ -56,6 +56,9 @@ module _ {m : Limits} {log : List ℕ} {s : State} {k : ℕ} {list t : List ℕ}
   question-count = a .holds .questions
 
   -- THE COMPUTATION
+
+  pub few-at : eventCount (a .reading .computation) ≤ m .events
+  few-at = law .few-events
 
   pub loaded : StoredValid (a .reading .computation) (s .stations) (s .counts) t
   loaded = record { stored = a .holds .stored; valid = law .valid }

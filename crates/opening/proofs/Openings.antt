@@ -1,5 +1,5 @@
 -- What opening a log for a question comes to, by what loading it came to.
-use mathlib.Core.Path.{_≡_, refl}
+use mathlib.Core.Path.{_≡_}
 use mathlib.Core.List.{List}
 use Prim.Native.Nat.{ℕ, _≤_, _<_}
 use native.Mathlib.Omega.{arith}
@@ -9,17 +9,18 @@ use Rattle.model.specs.Limits.{limits}
 use Rattle.model.specs.declared.Refusal.{Refusal}
 use Rattle.model.specs.Reply.{number}
 use Rattle.model.specs.Operations.{shut, poses, posing, openingOf, opening}
+use Rattle.codec.specs.Limits.{NoLarger}
 use Rattle.load.specs.declared.Acceptance.{Acceptance}
 use Rattle.load.specs.declared.Acceptance.the-variants.{Accepted, Refused}
 use Rattle.load.specs.declared.Loaded.{Loaded}
 use Rattle.load.specs.Loading.{Accepts, Loads}
-use Rattle.load.proofs.Loads.{no-larger, to-accepts, to-refused}
+use Rattle.load.proofs.Loads.{to-accepts, to-refused}
 use Rattle.opening.specs.Opening.{Holding, Poses, Opens}
 use Rattle.opening.proofs.Logs.{question-count, question-there, no-question}
 
--- List and store hold a log that was loaded under the operations' limits.
-pub holding : {log : List ℕ} {l : Loaded} {list t : List ℕ} → Accepts limits log (l .state) (l .length) list t → Holding l list t
-holding {log} a = record { limits-are = limits; small = no-larger limits refl; log = log; accepts = a }
+-- List and store hold a log that was loaded, under the operations' limits or smaller ones.
+pub holding : {m : Limits} {log : List ℕ} {l : Loaded} {list t : List ℕ} → NoLarger m limits → Accepts m log (l .state) (l .length) list t → Holding l list t
+holding {m} {log} up a = record { limits-are = m; small = up; log = log; accepts = a }
 
 module _ (m : Limits) (log : List ℕ) (q : ℕ) (l : Loaded) (list t : List ℕ) where
   -- A log that has the question poses it.

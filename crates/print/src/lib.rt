@@ -5,21 +5,13 @@ ghost use mathlib.Core.Path.{_≡_};
 ghost use mathlib.Core.List.{List, _++_};
 ghost use Prim.Native.Nat.{ℕ, _≤_};
 ghost use lib.ListN.{length, take, drop};
-ghost use Rattle.model.specs.Limits.{printLimits};
 ghost use Rattle.model.specs.Operations.{printed};
 
 // What the program asks for: one byte more than a log may have, so that it sees a log that is too long.
-pub const INPUT: usize = Log::BYTES + 1;
+pub const INPUT: usize = Log::PRINT_BYTES + 1;
 
 // The most that is printed: an answer line for each question.
 pub const PRINTED: usize = Log::PRINTED;
-
-// The program's own limits.
-fn print_limits() -> model::Limits
-    ensures { λ r. ⌜ r ≡ printLimits ⌝ }
-{
-    Log::limits()
-}
 
 // What is printed for a log, at the front of `out`; hands back its length.
 pub fn print_log(log: &[u8], out: &mut [u8; PRINTED]) -> usize
@@ -28,7 +20,7 @@ pub fn print_log(log: &[u8], out: &mut [u8; PRINTED]) -> usize
 {
     let mut list = [0u8; Log::LIST];
     let mut store = [0u8; Log::STORE];
-    let loaded = load::load(print_limits(), log, &mut list, &mut store);
+    let loaded = load::load(Log::print_limits(), log, &mut list, &mut store);
     let outcome = loaded.outcome;
     match outcome {
         load::Acceptance::Refused(refusal) => {

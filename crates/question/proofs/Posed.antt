@@ -4,10 +4,10 @@ use mathlib.Core.Bool.{true}
 use mathlib.Core.List.{List}
 use Prim.Native.Nat.{ℕ, _≤_}
 use native.Mathlib.Nat.{le-trans}
-use Rattle.model.specs.Limits.{workspaceSize}
+use Rattle.model.specs.Limits.{printLimits, workspaceSize}
 use Rattle.model.specs.Formula.{Formula, prefix, sound}
 use Rattle.model.specs.Size.{fits}
-use Rattle.model.specs.Computation.{Computation, stations}
+use Rattle.model.specs.Computation.{Computation, stations, eventCount}
 use Rattle.model.specs.Forecast.{forecast}
 use Rattle.lattice.proofs.Forecast.{workspace-fits}
 use Rattle.structure.specs.declared.Shape.{Shape}
@@ -18,8 +18,8 @@ module _ (K : Computation) (f : Formula) (good : (sound (stations K) f ≡ true)
   pub question : Question K f bytes x starts facts
   question = record { laid = laid; spells = e; named = rw (laid .0 .stationed) at (good .0); fitting = good .1 }
 
-  -- There is room to work it out in the largest workspace.
-  pub posed : (room : ℕ) → workspaceSize ≤ room → (K : Computation) × (f : Formula) × Question K f bytes x starts facts × (forecast K f .cells ≤ room)
-  posed room h =
+  -- There is room to work it out in the program's workspace, with at most as many events as the program takes.
+  pub posed : eventCount K ≤ printLimits .events → (room : ℕ) → workspaceSize ≤ room → (K : Computation) × (f : Formula) × Question K f bytes x starts facts × (forecast K f .cells ≤ room)
+  posed few room h =
       let l = laid .0 in
-      (K, f, question, le-trans (workspace-fits K f (good .1) (rw (l .stationed) (l .shaped .few-stations)) (rw (l .counted) (l .shaped .few-events))) h)
+      (K, f, question, le-trans (workspace-fits K f (good .1) (rw (l .stationed) (l .shaped .few-stations)) few) h)

@@ -1,6 +1,6 @@
 //! The basis, with rows of fixed size worked on in place.
 use crate::formula::{within, Token, Tokens};
-use crate::log::{contained, Cut, Log};
+use crate::log::{contained, Cut, Log, OPERATIONS};
 
 /// A row that is none has 255 at station 0.
 const NONE: Cut = [255; 8];
@@ -80,7 +80,7 @@ impl<'a> Worker<'a> {
 
     fn range(&self, station: usize, inside: impl Fn(u16) -> bool) -> Structure {
         let h = &self.log.history[station];
-        let mut next = [None; 129];
+        let mut next = [None; OPERATIONS.events + 2];
         for k in (0..h.len()).rev() {
             next[k] = if inside(h[k].value) { Some(&h[k].clock) } else { next[k + 1] };
         }

@@ -4,13 +4,15 @@ use crate::draw::Draw;
 use crate::ends;
 use crate::fault::Refusal;
 use crate::formula::{self, Token, Tokens};
-use crate::guard::Guarded;
+use crate::large;
+use crate::lent::Buffers;
 use crate::listing;
-use crate::log::{Log, LIST, LOG};
+use crate::log::{Log, OPERATIONS, PROGRAM, STATIONS};
 use crate::made::{self, Shape};
-use crate::operations::{self as here, answer_line, costs, Costs, BARS, LINE, WORKSPACE};
+use crate::operations::{self as here, answer_line, costs, Costs, BARS, WORKSPACE};
 use crate::peak::{Peak, Peaks};
 use crate::proved::{self, Reply};
+use crate::sides::{Side, Sides, FIXED_CELLS};
 use crate::zero::Zeros;
 use std::fmt::Debug;
 
@@ -46,13 +48,21 @@ impl Case {
     pub fn new(seed: u64) -> Self {
         let mut draw = Draw(seed);
         let d = &mut draw;
-        let fs = if d.below(50) == 0 { ends::frames(d) } else { drawn(d) };
+        // Whether the log is large, too long or neither is drawn apart, so that others do not depend on those two.
+        let sort = Draw(!seed).below(26);
+        let fs = match sort {
+            0 => large::frames(d),
+            _ if d.below(50) == 0 => ends::frames(d),
+            _ => drawn(d),
+        };
         let (mut log, mut list) = (made::lines(&fs), made::list(&fs));
-        if d.below(6) == 0 {
-            made::spoil(d, LOG, &mut log);
-        }
-        if d.below(6) == 0 {
-            made::spoil(d, LIST, &mut list);
+        let limits = if sort < 2 { OPERATIONS } else { PROGRAM };
+        for (most, bytes) in [(limits.log, &mut log), (limits.list, &mut list)] {
+            match d.below(6) {
+                again if sort == 1 => made::stretch(d, most, bytes, again < 3),
+                0 => made::spoil(d, most, bytes),
+                _ => {}
+            }
         }
         Case { log, list, draw }
     }
@@ -68,60 +78,9 @@ enum Lends {
 
 use Lends::*;
 
-/// A buffer of which the last bytes are lent, beside what it held before. Behind them stands a page that must not be touched.
-struct Lent {
-    asked: usize,
-    most: usize,
-    size: usize,
-    bytes: Guarded,
-    before: Vec<u8>,
-}
-
-impl Lent {
-    fn new(d: &mut Draw, asked: usize) -> Self {
-        let (pattern, mut bytes) = (d.byte(), Guarded::new(asked + 64));
-        bytes.bytes_mut().iter_mut().enumerate().for_each(|(i, b)| *b = pattern.wrapping_add(i as u8));
-        Lent { asked, most: asked, size: asked, before: bytes.bytes().to_vec(), bytes }
-    }
-
-    /// Lends as much as is asked for, or nothing, a little more or less, or the most that is ever asked for.
-    fn lend(&mut self, d: &mut Draw, exact: bool) {
-        let size = self.asked;
-        self.size = if exact { size } else { d.pick(&[0, size / 2, size - 1, size, size, size + 1, self.most]) };
-    }
-
-    /// Where the lent part begins.
-    fn start(&self) -> usize {
-        self.before.len() - self.size
-    }
-
-    fn part(&mut self) -> &mut [u8] {
-        let start = self.start();
-        &mut self.bytes.bytes_mut()[start..]
-    }
-
-    fn part_before(&mut self) -> &mut [u8] {
-        let start = self.start();
-        &mut self.before[start..]
-    }
-
-    /// The lent part may hold anything.
-    fn take_over(&mut self) {
-        let start = self.start();
-        self.before[start..].copy_from_slice(&self.bytes.bytes()[start..]);
-    }
-
-    fn same(&self, what: &str) {
-        let (bytes, before) = (self.bytes.bytes(), &self.before[..]);
-        if bytes != before {
-            let i = (0..bytes.len()).find(|&i| bytes[i] != before[i]).unwrap_or(0);
-            panic!("{what}: byte {i} is {}, not {}; lent were {} bytes, from byte {} on", bytes[i], before[i], self.size, self.start());
-        }
-    }
-}
-
 /// What was seen: calls, accepted logs, Holds' no and yes, answers that list no, one and several cuts, workspaces refused for one cell
-/// less than forecast and accepted with just these cells, each fault, peaks, and ranges through zero.
+/// less than forecast and accepted with just these cells, each fault, peaks, sides of limits, ranges through zero, and by their stations
+/// the accepted logs of more events than the program takes.
 pub struct Counts {
     pub calls: usize,
     pub accepted: usize,
@@ -130,18 +89,22 @@ pub struct Counts {
     pub limit: [usize; 2],
     pub faults: [usize; 256],
     pub peaks: Peaks,
+    pub sides: Sides,
     pub zeros: Zeros,
+    pub large: [usize; STATIONS],
 }
 
 impl Counts {
     pub fn new() -> Self {
-        let (peaks, zeros) = (Peaks::default(), Zeros::default());
-        Counts { calls: 0, accepted: 0, holds: [0; 2], answers: [0; 3], limit: [0; 2], faults: [0; 256], peaks, zeros }
+        let (peaks, sides, zeros) = (Peaks::default(), Sides::default(), Zeros::default());
+        let (holds, answers, limit, faults, large) = ([0; 2], [0; 3], [0; 2], [0; 256], [0; STATIONS]);
+        Counts { calls: 0, accepted: 0, holds, answers, limit, faults, peaks, sides, zeros, large }
     }
 
     fn meet_log(&mut self, log: &Log, bytes: usize) {
         let station = log.history.iter().map(|h| h.len() - 1).max().unwrap_or(0);
         self.accepted += 1;
+        self.large[log.stations() - 1] += (log.events > PROGRAM.events) as usize;
         self.peaks.meet(&[
             (Peak::Stations, log.stations()), (Peak::Events, log.events), (Peak::StationEvents, station),
             (Peak::Questions, log.questions.len()), (Peak::LogBytes, bytes), (Peak::ListBytes, log.list.len()),
@@ -176,6 +139,11 @@ fn cuts_listed(line: &[u8]) -> usize {
     number(&line[4..6])
 }
 
+/// The counts of the cuts that it lists.
+fn counts_listed(line: &[u8]) -> impl Iterator<Item = usize> + '_ {
+    line[6..line.len() - 11].chunks(2).map(number)
+}
+
 /// The rounds of an answer line, the four bytes before its check byte.
 fn rounds(line: &[u8]) -> usize {
     number(&line[line.len() - 11..line.len() - 3])
@@ -187,34 +155,32 @@ fn foretold([width, bars, held, _, ceiling]: Costs, line: &[u8], w: &Worker) {
     assert!(met.iter().zip([width, bars, held, ceiling]).all(|(m, most)| *m <= most), "{met:?} above the forecast");
 }
 
-/// The calls on one log, with the cells forecast for its questions, and the buffers that are lent.
+/// The calls on one log, with the cells forecast for its questions, and what is lent.
 struct Calls<'a> {
     log: &'a [u8],
     cells: Vec<usize>,
     draw: Draw,
-    list: Lent,
-    lines: Lent,
-    line: Lent,
-    ws: Lent,
-    bs: Lent,
+    lent: &'a mut Buffers,
     counts: &'a mut Counts,
 }
 
 impl Calls<'_> {
     fn read(&mut self) {
-        let out = &mut self.list;
+        let out = &mut self.lent.list;
         out.lend(&mut self.draw, false);
         let reply = proved::read(self.log, out.part());
         let here = here::read(self.log, out.part_before());
+        self.counts.sides.meet_read(self.log, out.size, &here);
         self.counts.same("Read", &reply, here);
         out.same("Read's output");
     }
 
     fn write(&mut self, list: &[u8]) {
-        let out = &mut self.lines;
+        let out = &mut self.lent.lines;
         out.lend(&mut self.draw, false);
         let reply = proved::write(list, out.part());
         let here = here::write(list, out.part_before());
+        self.counts.sides.meet_write(list, out.size, &here);
         self.counts.same("Write", &reply, here);
         out.same("Write's output");
     }
@@ -222,23 +188,26 @@ impl Calls<'_> {
     /// The workspace of a question that is not there is asked for as if it took all cells.
     fn lend_room(&mut self, q: usize, lends: Lends) {
         let cells = self.cells.get(q).copied().unwrap_or(WORKSPACE);
-        self.ws.asked = cells - (lends == OneLess) as usize;
-        self.ws.lend(&mut self.draw, lends != About);
-        self.bs.lend(&mut self.draw, lends != About);
+        self.lent.ws.asked = cells - (lends == OneLess) as usize;
+        self.lent.ws.lend(&mut self.draw, lends != About);
+        self.lent.bs.lend(&mut self.draw, lends != About);
     }
 
     /// Workspace and bar space may hold anything after an accepted call, and are as lent after a refusal.
     fn check_room(&mut self, q: usize, refused: Option<(u8, u32)>) {
-        for b in [&mut self.ws, &mut self.bs] {
+        for b in [&mut self.lent.ws, &mut self.lent.bs] {
             if refused.is_none() {
                 b.take_over();
             }
             b.same("workspace or bar space");
         }
-        let (cells, lent) = (self.cells.get(q).copied(), self.ws.size);
-        let one_less = refused == Some((11, 0)) && self.bs.size >= BARS && cells == Some(lent + 1);
+        let (cells, lent) = (self.cells.get(q).copied(), self.lent.ws.size);
+        let one_less = refused == Some((11, 0)) && self.lent.bs.size >= BARS && cells == Some(lent + 1);
+        let just = refused.is_none() && cells == Some(lent);
         self.counts.limit[0] += one_less as usize;
-        self.counts.limit[1] += (refused.is_none() && cells == Some(lent)) as usize;
+        self.counts.limit[1] += just as usize;
+        self.counts.sides.meet(Side::CellsUnder, one_less && lent >= FIXED_CELLS);
+        self.counts.sides.meet(Side::Cells, just && lent > FIXED_CELLS);
     }
 
     fn forecast(&mut self, q: usize) -> Option<Costs> {
@@ -250,24 +219,26 @@ impl Calls<'_> {
     /// The line, if the question is answered.
     fn answer(&mut self, q: usize, lends: Lends) -> Option<Vec<u8>> {
         self.lend_room(q, lends);
-        let out = &mut self.line;
+        let Buffers { line: out, ws, bs, .. } = &mut *self.lent;
         out.lend(&mut self.draw, lends != About);
-        let reply = proved::answer(self.log, q, self.ws.part(), self.bs.part(), out.part());
-        let here = here::answer(self.log, q, self.ws.size, self.bs.size, out.part_before());
+        let reply = proved::answer(self.log, q, ws.part(), bs.part(), out.part());
+        let here = here::answer(self.log, q, ws.size, bs.size, out.part_before());
         self.counts.same("Answer", &reply, here);
         out.same("Answer's output");
         self.check_room(q, reply.err());
         reply.ok().map(|n| {
-            let line = self.line.part()[..n].to_vec();
+            let line = self.lent.line.part()[..n].to_vec();
             self.counts.answers[cuts_listed(&line).min(2)] += 1;
+            self.counts.sides.meet(Side::CountListed, counts_listed(&line).any(|k| k == OPERATIONS.events));
             line
         })
     }
 
     fn holds(&mut self, q: usize, cut: &[u8], lends: Lends) -> Option<bool> {
         self.lend_room(q, lends);
-        let reply = proved::holds(self.log, q, cut, self.ws.part(), self.bs.part());
-        let here = here::holds(self.log, q, cut, self.ws.size, self.bs.size);
+        let Buffers { ws, bs, .. } = &mut *self.lent;
+        let reply = proved::holds(self.log, q, cut, ws.part(), bs.part());
+        let here = here::holds(self.log, q, cut, ws.size, bs.size);
         self.counts.same("Holds", &reply, here.map(usize::from));
         self.check_room(q, reply.err());
         reply.ok().map(|yes| {
@@ -280,7 +251,8 @@ impl Calls<'_> {
     fn odd(&mut self, questions: usize, stations: usize) {
         let d = &mut self.draw;
         let q = if d.below(4) == 0 { d.pick(&[questions, 255, 256, usize::MAX]) } else { d.below(questions + 1) };
-        let cut: Vec<u8> = (0..d.pick(&[0, stations, stations, stations, stations + 1])).map(|_| d.pick(&[0, 0, 0, 1, 1, 2, 128, 255])).collect();
+        let bytes = d.pick(&[0, stations, stations, stations, stations + 1]);
+        let cut: Vec<u8> = (0..bytes).map(|_| d.pick(&[0, 0, 0, 1, 1, 2, 128, 254, 255])).collect();
         self.forecast(q);
         self.answer(q, About);
         self.holds(q, &cut, About);
@@ -293,14 +265,15 @@ impl Calls<'_> {
     }
 
     /// One question at every cut, against the plain listing; the rounds are those of the independent implementation.
-    /// Where they are many, Holds is asked at one cut in so many.
+    /// Where they are many, or the log is large, Holds is asked at one cut in so many.
     fn listed(&mut self, log: &Log, q: usize, line: &[u8], rounds: u32) {
         let (f, n) = (&log.questions[q][..], log.stations());
         let cuts = listing::consistent(log);
         let truth = listing::truth(log, &cuts, &mut Tokens(f));
         let expected = answer_line(truth[0], &listing::maximal(&cuts, &truth), n, rounds);
         assert_eq!(line, expected, "question {q}: proved and listed");
-        let (all, step) = (listing::all(log), 1 + rounds as usize * cuts.len() / 400_000);
+        let work = rounds as usize + if log.events > PROGRAM.events { 30_000 } else { 0 };
+        let (all, step) = (listing::all(log), 1 + work * cuts.len() / 400_000);
         for c in all.into_iter().skip(self.draw.below(step)).step_by(step) {
             let expected = cuts.binary_search(&c).ok().map(|i| truth[i]);
             assert_eq!(self.holds(q, &c[..n], Just), expected, "question {q} at {c:?}: proved and listed");
@@ -317,20 +290,31 @@ impl Calls<'_> {
             self.holds(q, &c[..log.stations()], Just);
         }
     }
+
+    /// One question at the greatest cut, and at one with an event more than the station of most events has.
+    fn ended(&mut self, log: &Log, q: usize) {
+        let mut c: Vec<u8> = log.history.iter().map(|h| (h.len() - 1) as u8).collect();
+        let (truth, most) = (self.holds(q, &c, Just), c.iter_mut().max().expect("a station"));
+        *most += 1;
+        let over = *most as usize > OPERATIONS.events;
+        assert!(truth.is_some() && self.holds(q, &c, Just).is_none(), "question {q}: at the greatest cut and past it");
+        [Side::CountHeld, Side::CountOver].into_iter().for_each(|side| self.counts.sides.meet(side, over));
+    }
 }
 
-/// One case through all five operations: every question, and for a small log every cut.
-pub fn compare(case: Case, counts: &mut Counts) {
+/// One case through all five operations: every question, or of a large log a few, and for a small log every cut.
+pub fn compare(case: Case, lent: &mut Buffers, counts: &mut Counts) {
     let Case { log: data, list, mut draw } = case;
-    let [a, b, c, d, e] = [LIST, LOG, LINE, WORKSPACE, BARS].map(|asked| Lent::new(&mut draw, asked));
-    let mut calls = Calls { log: &data, cells: vec![], draw, list: a, lines: b, line: c, ws: d, bs: e, counts };
+    lent.fill(&mut draw);
+    let mut calls = Calls { log: &data, cells: vec![], draw, lent, counts };
     calls.read();
     calls.write(&list);
-    let Ok(log) = Log::read(&data) else { return calls.odd(3, 3) };
+    let Ok(log) = Log::read(OPERATIONS, &data) else { return calls.odd(3, 3) };
     calls.counts.meet_log(&log, data.len());
     calls.cells = log.questions.iter().map(|f| costs(&log, f)[3]).collect();
     calls.odd(log.questions.len(), log.stations());
-    for (q, f) in log.questions.iter().enumerate() {
+    let step = if log.events > PROGRAM.events { 1 + log.questions.len() / 4 } else { 1 };
+    for (q, f) in log.questions.iter().enumerate().skip(calls.draw.below(step)).step_by(step) {
         let costs = calls.forecast(q).expect("a forecast");
         calls.refused(q, log.stations());
         let line = calls.answer(q, Just).expect("an answer");
@@ -344,5 +328,6 @@ pub fn compare(case: Case, counts: &mut Counts) {
         } else {
             calls.sampled(&log, q);
         }
+        calls.ended(&log, q);
     }
 }

@@ -1,9 +1,10 @@
-//! Made-up logs at the upper ends of document 01's limits, which drawn ones do not meet.
+//! Made-up logs at the upper ends of document 01's limits, which drawn ones do not meet; of events, as many as are asked for.
 use crate::draw::Draw;
 use crate::formula::{fits, parse};
+use crate::log::PROGRAM;
 use crate::made::{self, word, Clocks, Shape};
 
-type Frames = Vec<Vec<u8>>;
+pub type Frames = Vec<Vec<u8>>;
 
 /// A station's value is from lo to hi, or outside: from lo to hi of the second pair.
 #[derive(Clone, Copy)]
@@ -83,9 +84,9 @@ fn sixteen(d: &mut Draw) -> Vec<u8> {
     }
 }
 
-/// Eight stations that leave their first value, with seldom a message among them.
-fn apart(d: &mut Draw) -> Frames {
-    let (each, apart) = (d.pick(&[1, 1, 1, 1, 2, 15]), d.pick(&[1000, 1000, 1000, 20]));
+/// Eight stations that leave their first value, each with one of these numbers of events, and with seldom a message among them.
+pub fn apart(d: &mut Draw, each: &[usize]) -> Frames {
+    let (each, apart) = (d.pick(each), d.pick(&[1000, 1000, 1000, 20]));
     let (mut clocks, mut left) = (Clocks::new(8), (0..8 * each).map(|i| i % 8).collect::<Vec<usize>>());
     let mut fs = vec![[vec![0x10, 8], vec![0; 16]].concat()];
     while !left.is_empty() {
@@ -97,11 +98,13 @@ fn apart(d: &mut Draw) -> Frames {
     fs
 }
 
-/// Up to four times the one side and the other, with up to four ranges more. Values are 0 on the left side, 2 on the right, 1 on both.
-fn both_sides(d: &mut Draw, stations: usize, station: usize, step: usize) -> Vec<u8> {
+/// The one side and the other, each as often as one of its numbers says, with up to four ranges more. Values are 0 on the left side, 2 on
+/// the right, 1 on both.
+fn both_sides(d: &mut Draw, times: [&[usize]; 2], stations: usize, station: usize, step: usize) -> Vec<u8> {
     let left = Way { station, inside: [0, step], outside: [2 * step, 2 * step] };
     let right = Way { station, inside: [step, 2 * step], outside: [0, 0] };
-    let sides = [vec![left; d.pick(&[4, 4, 4, 4, 1])], vec![right; d.pick(&[4, 4, 4, 4, 3])]];
+    let [lefts, rights] = times.map(|of| d.pick(of));
+    let sides = [vec![left; lefts], vec![right; rights]];
     let mut q = one_of_each(d, &sides, true);
     for _ in 0..d.below(5) {
         let more = Way { station: d.below(stations), ..d.pick(&[left, right]) }.range(true);
@@ -110,21 +113,21 @@ fn both_sides(d: &mut Draw, stations: usize, station: usize, step: usize) -> Vec
     q
 }
 
-/// A station that changes sides with each event: a start adds two events a round, and goes on to the last.
-fn turns(d: &mut Draw) -> Frames {
+/// A station that changes sides with each event: a start adds two events a round, and goes on to the last, which is on both sides or not.
+pub fn turns(d: &mut Draw, events: usize, both: &[bool], times: [&[usize]; 2]) -> Frames {
     let (stations, step) = (d.pick(&[1, 1, 2, 3]), d.pick(&[1, 255, 21845]));
-    let (j, side, both_at_last) = (d.below(stations), d.pick(&[0, 0, 0, 1]), d.pick(&[true, false, false]));
+    let (j, side, both_at_last) = (d.below(stations), d.pick(&[0, 0, 0, 1]), d.pick(both));
     let elsewhere = if stations == 1 { 0 } else { d.below(3) };
     let (mut clocks, mut fs) = (Clocks::new(stations), vec![[0x10, stations as u8].to_vec()]);
     (0..stations).for_each(|_| fs[0].extend(word(2 * side * step)));
-    for k in 1..=127 {
+    for k in 1..=events {
         let i = if k > elsewhere { j } else { d.below(stations) };
         let other = if d.below(8) == 0 { d.below(stations) } else { i };
         let clock = clocks.next(i, other);
-        let value = if k == 127 && both_at_last { 1 } else { 2 * ((side + clock[i] as usize) % 2) };
+        let value = if k == events && both_at_last { 1 } else { 2 * ((side + clock[i] as usize) % 2) };
         fs.push([vec![0x20, i as u8], word(value * step).to_vec(), clock].concat());
     }
-    fs.push([vec![0x30], both_sides(d, stations, j, step)].concat());
+    fs.push([vec![0x30], both_sides(d, times, stations, j, step)].concat());
     fs
 }
 
@@ -153,9 +156,9 @@ fn longest(d: &mut Draw, s: Shape) -> Vec<u8> {
     [vec![0x30], q].concat()
 }
 
-/// The longest log that there is.
-fn full(d: &mut Draw) -> Frames {
-    let s = Shape { stations: 8, events: 127, questions: 0, ranges: 0, step: d.pick(&[1, 255, 21845]), zero: 0 };
+/// The longest log that there is of so many events.
+pub fn full(d: &mut Draw, events: usize) -> Frames {
+    let s = Shape { stations: 8, events, questions: 0, ranges: 0, step: d.pick(&[1, 255, 21845]), zero: 0 };
     let mut fs = made::frames(d, s);
     fs.extend((0..16).map(|_| longest(d, s)));
     fs
@@ -177,17 +180,17 @@ fn deepest(d: &mut Draw, s: Shape) -> Vec<u8> {
 }
 
 /// A log that takes all the cells that a question can, or one with fewer stations.
-fn deep(d: &mut Draw) -> Frames {
+pub fn deep(d: &mut Draw, events: usize) -> Frames {
     let stations = d.pick(&[8, 8, 8, 1, 3]);
-    let s = Shape { stations, events: 127, questions: 0, ranges: 0, step: d.pick(&[1, 255, 21845]), zero: d.pick(&[0, 4]) };
+    let s = Shape { stations, events, questions: 0, ranges: 0, step: d.pick(&[1, 255, 21845]), zero: d.pick(&[0, 4]) };
     let mut fs = made::frames(d, s);
     fs.push(deepest(d, s));
     fs
 }
 
-/// A good header but for its station count, 0 or 9, and frames that go with 9 or another one.
-fn miscounted(d: &mut Draw) -> Frames {
-    let s = Shape { stations: d.pick(&[1, 8, 9, 9]), events: d.below(9), questions: d.below(3), ranges: 3, step: 1, zero: 0 };
+/// A good header but for its station count, 0 or 9, and frames that go with 9 or another one, with fewer events than are given.
+pub fn miscounted(d: &mut Draw, events: usize) -> Frames {
+    let s = Shape { stations: d.pick(&[1, 8, 9, 9]), events: d.below(events), questions: d.below(3), ranges: 3, step: 1, zero: 0 };
     let mut fs = made::frames(d, s);
     if s.stations < 9 {
         fs[0] = vec![0x10, 0];
@@ -195,12 +198,13 @@ fn miscounted(d: &mut Draw) -> Frames {
     fs
 }
 
+/// Logs within the program's limits.
 pub fn frames(d: &mut Draw) -> Frames {
     match d.below(18) {
-        0..=6 => apart(d),
-        7..=10 => turns(d),
-        11 | 12 => full(d),
-        13 | 14 => deep(d),
-        _ => miscounted(d),
+        0..=6 => apart(d, &[1, 1, 1, 1, 2, 15]),
+        7..=10 => turns(d, PROGRAM.events, &[true, false, false], [&[4, 4, 4, 4, 1], &[4, 4, 4, 4, 3]]),
+        11 | 12 => full(d, PROGRAM.events),
+        13 | 14 => deep(d, PROGRAM.events),
+        _ => miscounted(d, 9),
     }
 }

@@ -5,7 +5,7 @@ use Fault::*;
 #[derive(Clone, Copy, Debug)]
 #[repr(u8)]
 pub enum Fault {
-    LogOver8192 = 0x10,
+    LogTooLong = 0x10,
     NoEndOfLine = 0x20,
     OddDigits,
     NotADigit,
@@ -16,7 +16,7 @@ pub enum Fault {
     NoHeader,
     SecondHeader,
     EventAfterQuestion,
-    Event128,
+    TooManyEvents,
     Question17,
     EmptyLog,
     HeaderLength = 0x50,
@@ -41,17 +41,18 @@ pub enum Fault {
     Output = 0xC0,
     CutLength = 0xD0,
     NotConsistent,
-    ListOver4096 = 0xE0,
+    ListTooLong = 0xE0,
     LengthZero,
     LengthOver99,
     LengthPastEnd,
 }
 
 pub const ALL: [Fault; 40] = [
-    LogOver8192, NoEndOfLine, OddDigits, NotADigit, LineUnder2, LineOver100, CheckByte, UnknownKind, NoHeader, SecondHeader,
-    EventAfterQuestion, Event128, Question17, EmptyLog, HeaderLength, NoStation, StationsOver8, EventLength, EventStation, OwnEntry, EntryNotRead,
-    ClockAbove, FormulaEnds, BytesAfterFormula, UnknownToken, FormulaStation, TokensOver32, RangesOver12, WidthOver16, BarsOver16,
-    NoSuchQuestion, Workspace, BarSpace, Output, CutLength, NotConsistent, ListOver4096, LengthZero, LengthOver99, LengthPastEnd,
+    LogTooLong, NoEndOfLine, OddDigits, NotADigit, LineUnder2, LineOver100, CheckByte, UnknownKind, NoHeader, SecondHeader,
+    EventAfterQuestion, TooManyEvents, Question17, EmptyLog, HeaderLength, NoStation, StationsOver8, EventLength, EventStation, OwnEntry,
+    EntryNotRead, ClockAbove, FormulaEnds, BytesAfterFormula, UnknownToken, FormulaStation, TokensOver32, RangesOver12, WidthOver16,
+    BarsOver16, NoSuchQuestion, Workspace, BarSpace, Output, CutLength, NotConsistent, ListTooLong, LengthZero, LengthOver99,
+    LengthPastEnd,
 ];
 
 impl Fault {

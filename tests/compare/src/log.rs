@@ -3,10 +3,19 @@ use crate::fault::{Fault, Refusal};
 use crate::formula::{fits, parse, Token};
 
 pub const STATIONS: usize = 8;
-pub const EVENTS: usize = 127;
 pub const QUESTIONS: usize = 16;
-pub const LOG: usize = 8192;
-pub const LIST: usize = 4096;
+
+/// The most events that a log may have, and the most bytes of a log and of a frame list.
+#[derive(Clone, Copy)]
+pub struct Limits {
+    pub events: usize,
+    pub log: usize,
+    pub list: usize,
+}
+
+/// Those of the operations, and of the printing program.
+pub const OPERATIONS: Limits = Limits { events: 254, log: 16384, list: 8192 };
+pub const PROGRAM: Limits = Limits { events: 127, log: 8192, list: 4096 };
 
 /// A count for each station; those past the last are 0.
 pub type Cut = [u8; 8];
@@ -22,8 +31,8 @@ pub struct Event {
 }
 
 /// Event 0 of a station is its initial value with the empty cut.
-#[derive(Default)]
 pub struct Log {
+    limits: Limits,
     pub history: Vec<Vec<Event>>,
     pub events: usize,
     pub questions: Vec<Vec<Token>>,
@@ -31,6 +40,11 @@ pub struct Log {
 }
 
 impl Log {
+    /// A log of which nothing has been read.
+    fn new(limits: Limits) -> Self {
+        Log { limits, history: vec![], events: 0, questions: vec![], list: vec![] }
+    }
+
     pub fn stations(&self) -> usize {
         self.history.len()
     }
@@ -77,8 +91,8 @@ impl Log {
         if !self.questions.is_empty() {
             return Err(Fault::EventAfterQuestion);
         }
-        if self.events == EVENTS {
-            return Err(Fault::Event128);
+        if self.events == self.limits.events {
+            return Err(Fault::TooManyEvents);
         }
         if f.len() != 3 + n {
             return Err(Fault::EventLength);
@@ -132,20 +146,20 @@ impl Log {
         if self.stations() == 0 { Err(Refusal(Fault::EmptyLog, 1)) } else { Ok(self) }
     }
 
-    pub fn read(data: &[u8]) -> Result<Log, Refusal> {
-        if data.len() > LOG {
-            return Err(Refusal(Fault::LogOver8192, 0));
+    pub fn read(limits: Limits, data: &[u8]) -> Result<Log, Refusal> {
+        if data.len() > limits.log {
+            return Err(Refusal(Fault::LogTooLong, 0));
         }
-        let (mut log, mut bytes) = (Log::default(), [0; 100]);
+        let (mut log, mut bytes) = (Log::new(limits), [0; 100]);
         for (i, line) in data.split_inclusive(|&b| b == 0x0A).enumerate() {
             frame(line, &mut bytes).and_then(|f| log.admit(f)).map_err(|fault| Refusal(fault, i as u32 + 1))?;
         }
         log.finished()
     }
 
-    pub fn from_list(list: &[u8]) -> Result<Log, Refusal> {
-        let mut log = Log::default();
-        for (i, f) in entries(list).map_err(|fault| Refusal(fault, 0))?.into_iter().enumerate() {
+    pub fn from_list(limits: Limits, list: &[u8]) -> Result<Log, Refusal> {
+        let mut log = Log::new(limits);
+        for (i, f) in entries(limits, list).map_err(|fault| Refusal(fault, 0))?.into_iter().enumerate() {
             log.admit(f).map_err(|fault| Refusal(fault, i as u32 + 1))?;
         }
         log.finished()
@@ -153,9 +167,9 @@ impl Log {
 }
 
 /// A frame list's frames.
-pub fn entries(list: &[u8]) -> Result<Vec<&[u8]>, Fault> {
-    if list.len() > LIST {
-        return Err(Fault::ListOver4096);
+pub fn entries(limits: Limits, list: &[u8]) -> Result<Vec<&[u8]>, Fault> {
+    if list.len() > limits.list {
+        return Err(Fault::ListTooLong);
     }
     let (mut frames, mut rest) = (Vec::new(), list);
     while let Some((&k, tail)) = rest.split_first() {

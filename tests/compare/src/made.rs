@@ -206,10 +206,17 @@ pub fn spoil(d: &mut Draw, most: usize, bytes: &mut Vec<u8>) {
             bytes.extend(vec![b'0'; 2 * d.pick(&[1, 2, 99, 100, 101])]);
             bytes.push(0x0A);
         }
-        6 => bytes.resize(d.pick(&[most - 1, most, most + 1, 2 * most]), b'0'),
-        _ => {
-            let length = d.pick(&[most - 1, most, most + 1, 2 * most]);
-            *bytes = bytes.iter().copied().cycle().take(length).collect();
-        }
+        6 => stretch(d, most, bytes, false),
+        _ => stretch(d, most, bytes, true),
+    }
+}
+
+/// Bytes drawn out to about the most there may be, by zeros or by the same once more.
+pub fn stretch(d: &mut Draw, most: usize, bytes: &mut Vec<u8>, again: bool) {
+    let length = d.pick(&[most - 1, most, most + 1, 2 * most]);
+    if again {
+        *bytes = bytes.iter().copied().cycle().take(length).collect();
+    } else {
+        bytes.resize(length, b'0');
     }
 }

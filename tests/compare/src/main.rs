@@ -6,7 +6,10 @@ use compare::check::{compare, Case, Counts};
 use compare::fault::ALL;
 use compare::forecasts;
 use compare::guard::when_touched;
+use compare::lent::Buffers;
+use compare::log::PROGRAM;
 use compare::peak::WANTED;
+use compare::sides;
 use std::panic::{catch_unwind, AssertUnwindSafe};
 use std::process::ExitCode;
 use std::sync::atomic::{AtomicU64, Ordering::Relaxed};
@@ -36,7 +39,7 @@ fn asked(words: &[String]) -> Result<(u64, u64), String> {
 }
 
 /// What was met too seldom for the run to say much: an outcome, a fault or an end of a range through zero less than ten times in 4,000
-/// logs, a peak less than once.
+/// logs, a peak or a number of stations of large logs less than once, a side of a limit less often than is wanted.
 fn seldom(logs: u64, counts: &Counts) -> Vec<String> {
     let [no, yes] = counts.holds;
     let [none, one, several] = counts.answers;
@@ -48,19 +51,24 @@ fn seldom(logs: u64, counts: &Counts) -> Vec<String> {
     let outcomes = outcomes.into_iter().map(|(name, n)| (name.to_string(), n, 10));
     let faults = ALL.iter().map(|f| (format!("{f:?}"), counts.faults[*f as usize], 10));
     let peaks = WANTED.iter().map(|(p, least)| (format!("{p:?} of {least}"), counts.peaks.of(*p).times, 1));
+    let sides = sides::WANTED.iter().map(|(s, least)| (format!("{s:?}"), counts.sides.of(*s), *least));
+    let large = (1..).zip(counts.large).map(|(stations, n)| (format!("large of {stations} stations"), n, 1));
     let zeros = counts.zeros.figures().map(|(name, n)| (format!("through zero {name}"), n, 10));
-    let seen = outcomes.chain(faults).chain(peaks).chain(zeros);
+    let seen = outcomes.chain(faults).chain(peaks).chain(sides).chain(large).chain(zeros);
     seen.filter(|(_, n, least)| (*n as u64) < logs / 4000 * least).map(|(name, n, _)| format!("{name} {n}")).collect()
 }
 
 fn report(logs: u64, counts: &Counts) {
-    let Counts { calls, accepted, holds, answers, limit, faults, peaks, zeros } = counts;
+    let Counts { calls, accepted, holds, answers, limit, faults, peaks, sides, zeros, large } = counts;
     let refused: Vec<usize> = faults.chunks(16).map(|kinds| kinds.iter().sum()).collect();
     let reached: Vec<String> = WANTED.iter().map(|(p, _)| format!("{p:?} {} ({})", peaks.of(*p).most, peaks.of(*p).times)).collect();
     println!("{logs} logs, {accepted} accepted, {calls} calls, all equal");
     println!("Holds no and yes: {holds:?}; answers with no, one, several cuts: {answers:?}; refusals 1 to 14: {:?}", &refused[1..15]);
     println!("workspaces refused for one cell less than forecast, accepted with just these cells: {limit:?}");
     println!("peaks (and how often what is wanted): {}", reached.join(", "));
+    let met: Vec<String> = sides::WANTED.iter().map(|(s, _)| format!("{s:?} {}", sides.of(*s))).collect();
+    println!("sides of limits: {}", met.join(", "));
+    println!("accepted logs of more than {} events, by stations from 1: {large:?}", PROGRAM.events);
     let tried: Vec<String> = zeros.figures().map(|(name, n)| format!("{name} {n}")).collect();
     println!("ranges through zero, tried {}", tried.join(", "));
     if logs < 4000 {
@@ -94,11 +102,11 @@ fn main() -> ExitCode {
             return ExitCode::from(2);
         }
     };
-    let mut counts = Counts::new();
+    let (mut lent, mut counts) = (Buffers::new(), Counts::new());
     when_touched(touched);
     for seed in first..first + logs {
         SEED.store(seed, Relaxed);
-        if catch_unwind(AssertUnwindSafe(|| compare(Case::new(seed), &mut counts))).is_err() {
+        if catch_unwind(AssertUnwindSafe(|| compare(Case::new(seed), &mut lent, &mut counts))).is_err() {
             let Case { log, list, .. } = Case::new(seed);
             println!("`compare 1 {seed}` differs, on the log\n{}\nand the frame list\n{list:02X?}", log.escape_ascii());
             return ExitCode::FAILURE;

@@ -2,10 +2,11 @@
 use crate::basis::Worker;
 use crate::fault::{Fault, Refusal};
 use crate::formula::{size, Token, Tokens};
-use crate::log::{entries, line, Cut, Log, LIST, LOG};
+use crate::log::{entries, line, Cut, Log, OPERATIONS, PROGRAM, STATIONS};
 
-/// Enough cells for any question.
-pub const WORKSPACE: usize = 65536;
+/// The most structures that a question holds, and the most cells that it takes.
+pub const HELD: usize = 36;
+pub const WORKSPACE: usize = HELD * STATIONS * (OPERATIONS.events + 1);
 pub const BARS: usize = 8192;
 pub const LINE: usize = 273;
 
@@ -21,19 +22,19 @@ pub fn put(bytes: &[u8], out: &mut [u8]) -> usize {
 
 /// The counts of stations, events and questions, and the list's length.
 pub fn read(data: &[u8], out: &mut [u8]) -> Result<[usize; 4], Refusal> {
-    let log = Log::read(data)?;
-    if out.len() < LIST {
+    let log = Log::read(OPERATIONS, data)?;
+    if out.len() < OPERATIONS.list {
         return refused(Fault::Output);
     }
     Ok([log.stations(), log.events, log.questions.len(), put(&log.list, out)])
 }
 
 pub fn write(list: &[u8], out: &mut [u8]) -> Result<usize, Refusal> {
-    let log = Log::from_list(list)?;
-    if out.len() < LOG {
+    let log = Log::from_list(OPERATIONS, list)?;
+    if out.len() < OPERATIONS.log {
         return refused(Fault::Output);
     }
-    let lines: Vec<u8> = entries(&log.list).into_iter().flatten().flat_map(line).collect();
+    let lines: Vec<u8> = entries(OPERATIONS, &log.list).into_iter().flatten().flat_map(line).collect();
     Ok(put(&lines, out))
 }
 
@@ -50,7 +51,7 @@ pub fn costs(log: &Log, f: &[Token]) -> Costs {
 }
 
 pub fn forecast(data: &[u8], q: usize) -> Result<Costs, Refusal> {
-    let log = Log::read(data)?;
+    let log = Log::read(OPERATIONS, data)?;
     Ok(costs(&log, question(&log, q)?))
 }
 
@@ -80,7 +81,7 @@ pub fn answer_question(log: &Log, f: &[Token]) -> Vec<u8> {
 }
 
 pub fn answer(data: &[u8], q: usize, workspace: usize, bars: usize, out: &mut [u8]) -> Result<usize, Refusal> {
-    let log = Log::read(data)?;
+    let log = Log::read(OPERATIONS, data)?;
     let f = question(&log, q)?;
     room(costs(&log, f), workspace, bars)?;
     if out.len() < LINE {
@@ -90,7 +91,7 @@ pub fn answer(data: &[u8], q: usize, workspace: usize, bars: usize, out: &mut [u
 }
 
 pub fn holds(data: &[u8], q: usize, cut: &[u8], workspace: usize, bars: usize) -> Result<bool, Refusal> {
-    let log = Log::read(data)?;
+    let log = Log::read(OPERATIONS, data)?;
     let f = question(&log, q)?;
     let c = log.cut(cut).or_else(refused)?;
     room(costs(&log, f), workspace, bars)?;
@@ -98,9 +99,9 @@ pub fn holds(data: &[u8], q: usize, cut: &[u8], workspace: usize, bars: usize) -
     Ok(w.basis(&mut Tokens(f), true).iter().any(|s| w.belongs(s, &c)))
 }
 
-/// What the program prints, by a rule that answers a question.
+/// What the program prints, which has limits of its own, by a rule that answers a question.
 pub fn printed_by(data: &[u8], answer: impl Fn(&Log, &[Token]) -> Vec<u8>) -> Vec<u8> {
-    match Log::read(data) {
+    match Log::read(PROGRAM, data) {
         Err(Refusal(fault, at)) => line(&[0x50, fault.number(), (at / 256) as u8, (at % 256) as u8]),
         Ok(log) => log.questions.iter().flat_map(|q| answer(&log, q)).collect(),
     }

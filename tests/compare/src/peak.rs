@@ -1,4 +1,6 @@
 //! How far the made-up logs reach: figures of accepted logs and questions, beside what each has to come to.
+use crate::log::{OPERATIONS, QUESTIONS, STATIONS};
+use crate::operations::{HELD, WORKSPACE};
 use Peak::*;
 
 #[derive(Clone, Copy, Debug)]
@@ -25,14 +27,19 @@ pub enum Peak {
     Listed,
 }
 
-/// What each has to come to: document 01's limits and what follows from them, and rounds that pass two bytes.
-/// Structures held come to 36, by the forecast and at a time in the basis, in 36 * 8 * 128 cells. The ceiling is highest where both widths,
-/// multiplied and added up over the signs joined as "and", are 92: four two-way ors take 4 + 8 + 16, four ranges more 16 each.
-/// A start has at most 65 rounds: between its first round, which may add one event, and its last, which adds none, each adds two or more.
+const EVENTS: usize = OPERATIONS.events;
+
+/// What each has to come to: the operations' limits and what follows from them, and rounds that pass two bytes.
+/// A frame of k bytes is k + 1 of the list and, with its check byte and 0A, 2 * k + 3 of the log; k is 18 for a header of 8 stations and 12
+/// for their events, and 93 for the longest question, 12 ranges and 20 tokens more.
+/// Structures held come to 36, by the forecast and at a time in the basis. The ceiling is highest where both widths, multiplied and added
+/// up over the signs joined as "and", are 92: four two-way ors take 4 + 8 + 16, four ranges more 16 each.
+/// A start's first round may add one event, and so may the last but one; the last adds none, and each other adds two or more.
 pub const WANTED: [(Peak, usize); 20] = [
-    (Stations, 8), (Events, 127), (StationEvents, 127), (Questions, 16), (LogBytes, 6492), (ListBytes, 3174), (Tokens, 32), (Ranges, 12),
-    (Width, 16), (BarCount, 16), (Held, 36), (Cells, 36_864), (Ceiling, 92 * 128 * 128), (Standing, 36), (Structures, 16), (Bars, 16),
-    (RightBars, 16), (StartRounds, 65), (Rounds, 65_536), (Listed, 16),
+    (Stations, STATIONS), (Events, EVENTS), (StationEvents, EVENTS), (Questions, QUESTIONS),
+    (LogBytes, 39 + 27 * EVENTS + 189 * QUESTIONS), (ListBytes, 19 + 13 * EVENTS + 94 * QUESTIONS), (Tokens, 32), (Ranges, 12),
+    (Width, 16), (BarCount, 16), (Held, HELD), (Cells, WORKSPACE), (Ceiling, 92 * (EVENTS + 1) * (EVENTS + 1)), (Standing, HELD),
+    (Structures, 16), (Bars, 16), (RightBars, 16), (StartRounds, EVENTS / 2 + 2), (Rounds, 65_536), (Listed, 16),
 ];
 
 /// The largest figure met, and how often one met what is wanted.

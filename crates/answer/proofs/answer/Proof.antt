@@ -5,6 +5,7 @@ use borrow.Author.Needs.{needs}
 use borrow.Author.Tests.{ltb-true, ltb-false}
 use Rattle.load.proofs.Loads.{no-larger}
 use Rattle.opening.proofs.Logs.{below}
+use Rattle.codec.proofs.Suited.{same-within}
 use Rattle.opening.proofs.Openings.{holding, poses-is, to-poses, to-shut}
 use Rattle.opening.proofs.Room.{roomy}
 use Rattle.answer.proofs.Replies.{answer-shut, answer-cramped, answer-short, answer-line, met-refused, met-written}
@@ -36,7 +37,7 @@ cramped-requires : tie.Need-cramped-requires
 cramped-requires c κs =
     let o = c .before .before .before .before .before .open-log in
     let p = to-poses _ _ (c .before .before .before .before .before .before .before .before .limits .ensures) _ _ _ _ _ _ (c .before .before .before .before .before .open-log .ensures) (c .before .enum-told .given .1) in
-    ((below (p .accepts) _ (p .question) (p .is), omega (arith, p .accepts .short, o .kept)), (_, holding (p .accepts)))
+    ((below (p .accepts) _ (p .question) (p .is), omega (arith, p .accepts .short, o .kept)), (_, holding same-within (p .accepts)))
 
 refused-requires : tie.Need-refused-requires
 refused-requires c κs = search needs

@@ -1,6 +1,6 @@
 -- `bases::print_case`: a log that is accepted is as loading says. Assumes nothing.
 use native.Mathlib.Omega.{arith}
-use Rattle.load.proofs.Loads.{to-accepts, no-larger}
+use Rattle.load.proofs.Loads.{to-accepts, print-no-larger}
 use borrow.Author.Needs.{needs}
 use Rattle.bases.proofs.print_case.Statement.{statement}
 use Rattle.bases.proofs.print_case.Tie as tie
@@ -11,8 +11,8 @@ slice-aggregate-write-all c = search needs
 write-all-requires : tie.Need-write-all-requires
 write-all-requires c κs = search needs
 
-limits-requires : tie.Need-limits-requires
-limits-requires c κs = search needs
+print-limits-requires : tie.Need-print-limits-requires
+print-limits-requires c κs = search needs
 
 slice-aggregate-load : tie.Need-slice-aggregate-load
 slice-aggregate-load c = search needs
@@ -21,7 +21,7 @@ slice-aggregate-load-2 : tie.Need-slice-aggregate-load-2
 slice-aggregate-load-2 c = search needs
 
 load-requires : tie.Need-load-requires
-load-requires c κs = (no-larger _ (c .before .before .limits .ensures), search needs)
+load-requires c κs = (print-no-larger _ (c .before .before .print-limits .ensures), search needs)
 
 enum-known-outcome : tie.Need-enum-known-outcome
 enum-known-outcome c = search needs
@@ -47,7 +47,7 @@ slice-aggregate-print-loaded-2 c = search needs
 print-loaded-requires : tie.Need-print-loaded-requires
 print-loaded-requires c κs =
     let l = c .before .before .before .before .before .before .load in
-    let a = rw (c .before .before .before .before .before .before .before .before .before .limits .ensures) at (to-accepts _ _ _ _ _ _ _ (l .ensures .0) (c .before .before .enum-told .given .1)) in
+    let a = rw (c .before .before .before .before .before .before .before .before .before .print-limits .ensures) at (to-accepts _ _ _ _ _ _ _ (l .ensures .0) (c .before .before .enum-told .given .1)) in
     ((omega (arith, a .short, l .kept), omega (arith, l .kept)), (_, a))
 
 returns : tie.Need-returns
@@ -62,7 +62,7 @@ print-case-spec =
     (tie.spec
     slice-aggregate-write-all
     write-all-requires
-    limits-requires
+    print-limits-requires
     slice-aggregate-load
     slice-aggregate-load-2
     load-requires

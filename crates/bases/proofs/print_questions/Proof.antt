@@ -3,9 +3,10 @@ use mathlib.Core.Path.{_≡_, refl, _∙_}
 use Prim.Native.Nat.{_≤_, _-_}
 use native.Mathlib.Omega.{arith}
 use lib.ListN.{length}
+use Rattle.load.proofs.Loads.{print-no-larger}
 use Rattle.opening.proofs.Openings.{holding}
 use Rattle.question.proofs.Posed.{posed}
-use Rattle.opening.proofs.Logs.{question-there, question-count, good-at}
+use Rattle.opening.proofs.Logs.{question-there, question-count, good-at, few-at}
 use borrow.Author.Needs.{needs}
 use Rattle.bases.proofs.print_questions.Statement.{statement}
 use Rattle.bases.proofs.print_questions.Tie as tie
@@ -20,7 +21,7 @@ loop-holds : tie.Need-loop-holds Inv-loop μ-loop
 loop-holds c = (omega arith, refl, refl)
 
 asked-requires : tie.Need-asked-requires Inv-loop μ-loop
-asked-requires c κs = let p = c .before .before .before .before .before .before .before .before .before .pre in ((c .if1 .taken, p .0 .0), (_, holding (p .1 .accepts)))
+asked-requires c κs = let p = c .before .before .before .before .before .before .before .before .before .pre in ((c .if1 .taken, p .0 .0), (_, holding (print-no-larger _ refl) (p .1 .accepts)))
 
 print-basis-requires : tie.Need-print-basis-requires Inv-loop μ-loop
 print-basis-requires c κs =
@@ -28,7 +29,7 @@ print-basis-requires c κs =
     let a = p .1 .accepts in
     let v = c .before .before .before .before .before .loop in
     let f = question-there (a .reading .questions) (v .i) (omega (arith, question-count a, c .before .before .before .if1 .taken)) in
-    (posed _ (f .0) (good-at a _ (f .0) (f .1)) _ (c .before .before .asked .ensures _ _ _ a (f .0) (f .1)) (p .1 .laid) _ (omega (arith, v .inv .1, p .0 .1)), omega (arith, v .inv .2, p .0 .2))
+    (posed _ (f .0) (good-at a _ (f .0) (f .1)) _ (c .before .before .asked .ensures _ _ _ a (f .0) (f .1)) (p .1 .laid) (few-at a) _ (omega (arith, v .inv .1, p .0 .1)), omega (arith, v .inv .2, p .0 .2))
 
 add-i : tie.Need-add-i Inv-loop μ-loop
 add-i c = omega (arith, c .before .before .before .before .before .before .before .before .before .before .before .before .before .before .before .before .before .pre .1 .accepts .bounded .few-questions, c .before .before .before .before .before .before .before .before .if1 .taken)

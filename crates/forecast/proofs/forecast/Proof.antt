@@ -4,6 +4,7 @@ use native.Mathlib.Omega.{arith}
 use borrow.Author.Needs.{needs}
 use Rattle.load.proofs.Loads.{no-larger}
 use Rattle.opening.proofs.Logs.{below}
+use Rattle.codec.proofs.Suited.{same-within}
 use Rattle.opening.proofs.Openings.{holding, poses-is, to-poses, to-shut}
 use Rattle.forecast.proofs.Replies.{met-shut, met-given}
 use Rattle.forecast.proofs.forecast.Statement.{statement}
@@ -34,7 +35,7 @@ foresee-requires : tie.Need-foresee-requires
 foresee-requires c κs =
     let o = c .before .before .before .before .before .open-log in
     let p = to-poses _ _ (c .before .before .before .before .before .before .before .before .limits .ensures) _ _ _ _ _ _ (o .ensures) (c .before .enum-told .given .1) in
-    ((below (p .accepts) _ (p .question) (p .is), omega (arith, p .accepts .short, o .kept)), (_, holding (p .accepts)))
+    ((below (p .accepts) _ (p .question) (p .is), omega (arith, p .accepts .short, o .kept)), (_, holding same-within (p .accepts)))
 
 returns : tie.Need-returns
 returns c = met-shut _ _ (c .before .outcome .given .0 .0) (to-shut _ _ (c .before .before .before .before .before .before .before .before .limits .ensures) _ _ _ _ _ _ (c .before .before .before .before .before .open-log .ensures) _ (c .before .outcome .given .1))

@@ -5,6 +5,7 @@ use borrow.Author.Needs.{needs}
 use borrow.Author.Tests.{not-true, not-false}
 use Rattle.load.proofs.Loads.{no-larger}
 use Rattle.opening.proofs.Logs.{below, cut-size}
+use Rattle.codec.proofs.Suited.{same-within}
 use Rattle.opening.proofs.Openings.{holding, poses-is, to-poses, to-shut}
 use Rattle.opening.proofs.Room.{roomy}
 use Rattle.holds.proofs.Replies.{holds-shut, holds-inconsistent, holds-cramped, holds-told, told-refused, told-given}
@@ -45,7 +46,7 @@ cramped-requires : tie.Need-cramped-requires
 cramped-requires c κs =
     let o = c .before .before .before .before .before .before .before .before .before .before .open-log in
     let p = to-poses _ _ (c .before .before .before .before .before .before .before .before .before .before .before .before .before .limits .ensures) _ _ _ _ _ _ (c .before .before .before .before .before .before .before .before .before .before .open-log .ensures) (c .before .before .before .before .before .before .enum-told .given .1) in
-    ((below (p .accepts) _ (p .question) (p .is), omega (arith, p .accepts .short, o .kept)), (_, holding (p .accepts)))
+    ((below (p .accepts) _ (p .question) (p .is), omega (arith, p .accepts .short, o .kept)), (_, holding same-within (p .accepts)))
 
 refused-requires : tie.Need-refused-requires
 refused-requires c κs = search needs

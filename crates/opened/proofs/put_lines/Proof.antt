@@ -5,9 +5,10 @@ use Prim.Native.Nat.{_+_, _*_, _-_, _≤_}
 use native.Mathlib.Omega.{arith}
 use lib.ListN.{length, length-take, length-drop}
 use borrow.Rule.Slice.PartMut.{same-len-mid}
+use Rattle.codec.proofs.Suited.{print-within}
 use Rattle.opening.proofs.Openings.{holding}
 use Rattle.question.proofs.Posed.{posed}
-use Rattle.opening.proofs.Logs.{question-there, question-count, good-at}
+use Rattle.opening.proofs.Logs.{question-there, question-count, good-at, few-at}
 use Rattle.opened.proofs.Lines.{Printing, printing-none, printing-more, printing-all, line-short}
 use Rattle.opened.proofs.put_lines.Statement.{statement}
 use Rattle.opened.proofs.put_lines.Tie as tie
@@ -23,7 +24,7 @@ loop-holds : tie.Need-loop-holds Inv-loop μ-loop
 loop-holds c = (omega arith, omega arith, refl, refl, refl, printing-none _ _ _ _ _ _)
 
 asked-requires : tie.Need-asked-requires Inv-loop μ-loop
-asked-requires c κs = let p = c .before .before .before .before .before .before .before .before .pre in ((c .if1 .taken, p .0 .0), (_, holding (p .1 .accepts)))
+asked-requires c κs = let p = c .before .before .before .before .before .before .before .before .pre in ((c .if1 .taken, p .0 .0), (_, holding print-within (p .1 .accepts)))
 
 slice-aggregate-put-line : tie.Need-slice-aggregate-put-line Inv-loop μ-loop
 slice-aggregate-put-line c = sym (c .before .before .before .before .loop .inv .2)
@@ -53,7 +54,7 @@ put-line-requires c κs =
     let a = p .accepts in
     let v = c .before .before .before .before .before .before .loop in
     let f = question-there (a .reading .questions) (v .i) (omega (arith, question-count a, c .before .before .before .before .if1 .taken)) in
-    (posed _ (f .0) (good-at a _ (f .0) (f .1)) _ (c .before .before .before .asked .ensures _ _ _ a (f .0) (f .1)) (p .laid) _ (omega (arith, v .inv .2)), (omega (arith, v .inv .3), simp (length-take, length-drop) (omega (arith, left (c .before)))))
+    (posed _ (f .0) (good-at a _ (f .0) (f .1)) _ (c .before .before .before .asked .ensures _ _ _ a (f .0) (f .1)) (p .laid) (few-at a) _ (omega (arith, v .inv .2)), (omega (arith, v .inv .3), simp (length-take, length-drop) (omega (arith, left (c .before)))))
 
 inside : (c : tie.After-slice-known2 Inv-loop μ-loop) → c .before .before .before .before .before .before .before .before .before .before .before .loop .end ≤ length (c .before .before .before .before .before .before .before .before .before .before .before .loop .out)
 inside c = omega (arith, left (c .before .before .before .before .before .before))

@@ -3,7 +3,7 @@ use native.Mathlib.Omega.{arith}
 use borrow.Author.Needs.{needs}
 use Rattle.model.specs.Limits.{printLimits}
 use Rattle.codec.proofs.Refusals.{log-named}
-use Rattle.load.proofs.Loads.{no-larger}
+use Rattle.load.proofs.Loads.{print-no-larger}
 use Rattle.print.proofs.Printed.{to-accepts, to-refused, printed-so, printed-lines, printed-refusal}
 use Rattle.print.proofs.print_log.Statement.{statement}
 use Rattle.print.proofs.print_log.Tie as tie
@@ -18,7 +18,7 @@ slice-aggregate-load-2 : tie.Need-slice-aggregate-load-2
 slice-aggregate-load-2 c = search needs
 
 load-requires : tie.Need-load-requires
-load-requires c κs = (no-larger _ (c .before .before .print-limits .ensures), search needs)
+load-requires c κs = (print-no-larger _ (c .before .before .print-limits .ensures), search needs)
 
 enum-known-outcome : tie.Need-enum-known-outcome
 enum-known-outcome c = search needs

@@ -1,0 +1,115 @@
+"""Logs about the most events and bytes, those of the program and those of the operations, for the corpus; and Holds on such logs.
+
+Where all events are of one station, or each has seen most before it, the cuts are few enough to list.
+"""
+from bases import Rule, drawn, questioned
+from bench_cases import asked, deep, holds, ladder
+from frames import ONE, Draw, atom, case, computation, in_turn, log_of, padded, word
+from listing import OPERATIONS, PROGRAM, encode
+from read_write import LONGEST, OLD_LOG, full_log
+
+MOST = OPERATIONS.events
+
+
+def all_at(d, n, s):
+    """The most events, all at one station, the last value the only one of its kind; and questions about it, and about one never seen."""
+    values = [d.below(4) for _ in range(MOST - 1)] + [4]
+    clock = lambda k: [k if j == s else 0 for j in range(n)]
+    events = [[0x20, s] + word(v) + clock(k) for k, v in enumerate(values, 1)]
+    last, never = atom(s, 4, 4), atom(d.below(n), 5, 9)
+    some = lambda: d.pick([[], [2], [5], [6], [2, 5], [6, 2]]) + d.pick([last, last, never, atom(s, 0, d.below(4)), atom(d.below(n), 0, 3)])
+    questions = [last, [2] + last, [6] + last, [2, 5] + last, [2, 5] + never]
+    questions += [[4] + never + last, [3] + last + never, [3] + last + [2, 5] + never]
+    questions += [d.pick([[3], [4], [2, 3], [2, 4]]) + some() + some() for _ in range(4)]
+    return log_of([[0x10, n] + [0, 0] * n] + events + [[0x30] + q for q in questions])
+
+
+def coupled(d, n, events):
+    """Stations in any order, each event of which has seen all before it but at most two."""
+    frames = [[0x10, n] + [b for _ in range(n) for b in word(d.below(8))]]
+    seen, last = [[0] * n], [[0] * n for _ in range(n)]
+    for i in range(events):
+        s = d.below(n)
+        last[s] = list(map(max, last[s], seen[max(i - d.pick([0, 0, 1, 2]), 0)]))
+        last[s][s] += 1
+        seen.append([k + (j == s) for j, k in enumerate(seen[-1])])
+        frames.append([0x20, s] + word(d.below(8)) + last[s])
+    return frames
+
+
+def chain(d, k):
+    """Header and k events of one station."""
+    return [ONE] + in_turn(1, k, lambda i: d.below(4))
+
+
+def wrong_check(frame):
+    """A frame's line with a wrong check byte."""
+    return encode(frame)[:-3] + b"%02X\n" % ((1 - sum(frame)) % 256)
+
+
+def at_limit(d, most):
+    """As many events as there may be, and then one more: in order, at fault besides in each way that there is, or with faults behind."""
+    more, question = [0x20, 0, 0, 1, most + 1], [0x30] + atom()
+    yield log_of(chain(d, most) + [question])
+    at_fault = [more[:-1], [0x20], more + [0], [0x20, 1] + more[2:], more[:-1] + [most]]
+    for tail in [[more], [more, question], *([f] for f in at_fault), [more, [0x20]], [more, ONE], [more, [0x30]]]:
+        yield log_of(chain(d, most) + tail)
+    yield log_of(chain(d, most) + [more]) + b"\n"
+    yield log_of(chain(d, most)) + wrong_check(more)
+    yield log_of(chain(d, most)) + b"G\n"
+
+
+def faulty(d, way):
+    """A log of more events than the program takes, with a wrong clock, station or check byte behind them."""
+    frames = chain(d, MOST - d.below(100))
+    i = len(frames) - 1 - d.below(20)
+    line = [encode([0x20, 0, 0, 1, i + 1]), encode([0x20, 1, 0, 1, i]), wrong_check([0x20, 0, 0, 1, i])][way]
+    return log_of(frames[:i]) + line + log_of(frames[i + 1:])
+
+
+def logs(d):
+    for n, s in [(1, 0)] * 9 + [(2, 0), (2, 1), (3, 2), (8, 0), (8, 7)]:
+        yield all_at(d, n, s)
+    for n, k in [(2, 128), (2, MOST), (3, 200), (4, MOST), (5, 129), (6, 192), (7, 253), (8, MOST)]:
+        yield questioned(d, coupled(d, n, k), 4)
+    for n, k in [(2, MOST), (3, 160), (5, 228), (8, 128), (8, MOST)]:
+        yield drawn(d, n, k, 8)
+    for k in (226, 227, MOST):  # up to 226 events a question takes at most 65,536 cells
+        yield deep(8, k)
+    yield ladder(3, MOST)
+    for most in (PROGRAM.events, MOST):
+        yield from at_limit(d, most)
+    yield log_of([[0x10, 2] + [0, 0] * 2] + in_turn(2, 300, lambda i: d.below(4)))
+    for way in (0, 1, 2) * 2:
+        yield faulty(d, way)
+    yield full_log(OLD_LOG, 7)
+    yield full_log(OLD_LOG + 1, 8)
+    yield padded(LONGEST, OPERATIONS.log)
+
+
+# HOLDS
+
+def at_the_end(d, n, s, questions):
+    """Questions at the last count that there can be, and the first one at the counts beside it."""
+    data, cut = all_at(d, n, s), lambda k: [k if j == s else 0 for j in range(n)]
+    for q in range(questions):
+        yield holds(data, q, cut(MOST))
+    yield holds(data, 0, cut(MOST - 1))
+    yield holds(data, 0, cut(MOST + 1))
+
+
+def among_many(d):
+    """A log with too many cuts to list them: the empty and the full one, and by the rule the least and the greatest of a question."""
+    frames, seen = computation(d, 4, MOST, 8, 2)
+    data = log_of(frames + [[0x30, 3] + atom(0, seen[0][30], seen[0][30]) + atom(3, seen[3][30], seen[3][30])])
+    log, f = asked(data, 0)
+    [structure] = Rule(log).basis(f, True)
+    for cut in [(0,) * 4, tuple(map(len, log.history)), structure.least, structure.top]:
+        yield case("H", data, 0, cut), b"H yes\n" if structure.has(cut) else b"H no\n"
+
+
+def cases(seed):
+    d = Draw(seed)
+    yield from at_the_end(d, 1, 0, 8)
+    yield from at_the_end(d, 2, 1, 2)
+    yield from among_many(d)
