@@ -6,9 +6,9 @@ it, never as rows, so that no code or shape is shared with the product. Where th
 import sys
 from functools import cache
 
-from bench_cases import ALL, ZERO, chain, ladder
-from frames import Draw, atom, case, computation, formula, log_of
-from listing import OPERATIONS, PROGRAM, Listing, Refused, Walk, admit, answer_line, answers, contained, cuts, read, within
+from bench_cases import ALL, CONVEYORS, ZERO, chain, ladder
+from frames import Draw, asked_of, atom, case, computation, formula, log_of, sendings, with_clear
+from listing import OPERATIONS, PROGRAM, Listing, Refused, Walk, admit, answer_line, answers, contained, cuts, read, stations, true_at
 
 LISTED = 500
 
@@ -40,12 +40,12 @@ class Rule(Walk):
             top = top if c is None else join(top, c)
         return [] if any(contained(top, b) for b in bars) else [Structure(raised, least, top, bars)]
 
-    def atom(self, s, lo, hi, sign):
+    def atom(self, a, sign):
+        s = stations(a)[-1]  # the one whose events decide: that of the value, or the receiver
+
         def raised(c):
-            for k in range(c[s], len(self.log.history[s]) + 1):
-                if within(lo, hi, self.log.value(s, k)) == sign:
-                    return join(c, self.log.clock(s, k))
-            return None
+            joined = (join(c, self.log.clock(s, k)) for k in range(c[s], len(self.log.history[s]) + 1))
+            return next((d for d in joined if true_at(self.log, a, d) == sign), None)
 
         return self.kept(raised, [])
 
@@ -148,11 +148,12 @@ def empty(d, n):
     return d.pick([[3] + never + pair, [3] + pair + never, [2, 4, 2] + never + [2] + pair])
 
 
-def question(d, log):
-    """A question that the log takes in."""
+def question(d, log, pairs):
+    """A question that the log takes in; with tokens 07 if there are pairs of stations to ask about."""
     n = len(log.initial)
     while True:
         q = d.pick([wide, wide, wide, barred, barred, empty, lambda d, n: formula(d, n, 5, 8)])(d, n)
+        q = with_clear(d, q, pairs) if pairs else q
         try:
             admit(log, [0x30] + q)
         except Refused:
@@ -161,14 +162,16 @@ def question(d, log):
 
 
 def questioned(d, frames, questions):
-    """The log of header and events, with questions."""
+    """The log of header and events, and messages if there are any, with questions."""
     log = read(log_of(frames), OPERATIONS)
-    return log_of(frames + [[0x30] + question(d, log) for _ in range(questions)])
+    pairs = asked_of(d, frames) if log.messages else []
+    return log_of(frames + [[0x30] + question(d, log, pairs) for _ in range(questions)])
 
 
-def drawn(d, n, events, questions):
-    """A computation of n stations with messages between them, and questions."""
-    return questioned(d, computation(d, n, events, 8, 2)[0], questions)
+def drawn(d, n, events, questions, messages=0):
+    """A computation of n stations that know of each other, messages named or none, and questions."""
+    frames = computation(d, n, events, 8, 2)[0]
+    return questioned(d, frames + (sendings(d, frames, messages) if messages else []), questions)
 
 
 def logs(seed):
@@ -180,6 +183,9 @@ def logs(seed):
     yield ladder(8, 127)
     for n, events in ((1, 0), (2, 7), (3, 15), (4, 16), (5, 12), (2, 127), (4, 60), (6, 100), (7, 120), (8, 40), (8, 127), (8, 127)):
         yield drawn(d, n, events, 16)
+    for n, events, messages in ((2, 12, 8), (3, 15, 12), (4, 16, 20), (5, 12, 6), (2, 127, 64), (5, 90, 40), (8, 127, 64)):
+        yield drawn(d, n, events, 16, messages)
+    yield from CONVEYORS
     yield b"\n"
     yield chain(PROGRAM.events + 1)
 

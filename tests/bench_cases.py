@@ -1,5 +1,7 @@
 """The cases of document 01's bench section and limits for Forecast, Answer, Holds and the program, and what is to come of each."""
-from frames import ONE, WORKSPACE, atom, case, in_turn, log_of
+import sys
+
+from frames import ONE, WORKSPACE, atom, case, clear, in_turn, log_of, message
 from listing import OPERATIONS, Listing, Refused, answer_line, encode, forecast, printed, read
 
 Q = [3] + atom(0, 5, 5) + atom(1, 1, 1)
@@ -46,6 +48,58 @@ ALL = HEAD + log_of([0x30] + q for q in QUESTIONS)
 ZERO = HEAD + log_of([0x30] + q for q in THROUGH_ZERO)
 WIDE18 = HEAD + encode([0x30, 3, 3] + [4, 4] + atom(0, 0, 5) * 3 + [4, 4] + atom(1, 0, 5) * 3 + [4] + atom(0, 0, 5) * 2)
 HEADER = encode(ONE)
+
+# Questions about messages between two stations.
+CLEAR = [
+    clear(0, 1),
+    clear(1, 0),
+    clear(1, 1),
+    [2, 2] + clear(),
+    [5] + clear(),
+    [2, 5] + clear(),
+    [6, 2] + clear(),
+    [2, 6, 2] + clear(),
+    [6, 5] + clear(),
+    [3] + atom(0, 5, 5) + clear(),
+    [3] + clear() + atom(1, 0, 2),
+    [3] + clear() + clear(1, 0),
+    [4] + clear() + atom(0, 5, 5),
+    [5, 3] + clear() + atom(0, 5, 5),
+    [2, 4, 2] + clear() + [2] + atom(1, 1, 1),
+    [3] + clear() + [6, 2] + Q,
+]
+RECEIVED, NEVER = message(0, 1, 1, 2), message(0, 1, 1)
+# Two sendings of station 0, of which event 2 of station 1 has seen both.
+BOTH_SEEN = log_of([[0x10, 2, 0, 0, 0, 0], [0x20, 0, 0, 5, 1, 0], [0x20, 0, 0, 6, 2, 0], [0x20, 1, 0, 1, 0, 1], [0x20, 1, 0, 2, 2, 2],
+                    [0x20, 1, 0, 3, 2, 3]])
+# Header and events, and messages: none, received, never, and both with one of them named twice; received in turn, so that the first's
+# receiving brings in the second's sending, received the other way about, at one event, and the second never.
+SENT = [
+    (HEAD, []),
+    (HEAD, [RECEIVED]),
+    (HEAD, [NEVER]),
+    (HEAD, [RECEIVED, NEVER, RECEIVED]),
+    (BOTH_SEEN, [message(0, 1, 1, 2), message(0, 2, 1, 3)]),
+    (BOTH_SEEN, [message(0, 1, 1, 3), message(0, 2, 1, 2)]),
+    (BOTH_SEEN, [message(0, 2, 1, 2), message(0, 1, 1, 2)]),
+    (BOTH_SEEN, [message(0, 1, 1, 2), message(0, 2, 1)]),
+]
+CONVEYORS = [log + log_of(messages + [[0x30] + q for q in CLEAR]) for log, messages in SENT]
+# Messages and a question of the bench log, and what is printed, worked out by hand.
+BY_HAND = [
+    ([], clear(), b"400101010200000000BB\n"),
+    ([RECEIVED], clear(), b"400101010200000000BB\n"),
+    ([NEVER], clear(), b"400101000100000000BD\n"),
+    ([RECEIVED], [3] + atom(0, 5, 5) + [2, 2] + clear(), b"400001010200000007B5\n"),
+    ([NEVER], [3] + atom(0, 5, 5) + clear(), b"40000000000004BC\n"),
+    ([NEVER], [3] + atom(0, 5, 5) + clear(1, 0), b"400001010200000006B6\n"),
+    ([RECEIVED], [6, 2] + clear(), b"40000000000000C0\n"),
+    ([RECEIVED], [6] + clear(), b"501000069A\n"),
+    ([RECEIVED], [5, 2] + clear(), b"501000069A\n"),
+    ([RECEIVED], clear(0, 2), b"50080006A2\n"),
+    ([message(0, 1, 1, 1)], clear(), b"500F00059C\n"),
+    ([message(0, 0, 1, 2)], clear(), b"500F00059C\n"),
+]
 
 
 def chain(k):
@@ -126,7 +180,9 @@ def about(data, q):
 
 LOGS = (BENCH, ALL, ZERO, HEAD, b"", b"\n", WIDE18, chain(127), chain(128), chain(0), HEADER, b"0" * 8193, ladder(3, 24), ladder(2, 40),
         chain(254), chain(255))
-REFUSED = (BENCH[:-1], b"", BENCH.lower(), WIDE18, chain(255))
+LACKING, NEGATED = HEAD + log_of([message(0, 1, 1, 1), [0x30] + Q]), HEAD + log_of([RECEIVED, [0x30] + Q, [0x30, 2] + clear()])
+MESSAGES_65 = HEAD + log_of([RECEIVED] * 65 + [[0x30] + Q])
+REFUSED = (BENCH[:-1], b"", BENCH.lower(), WIDE18, chain(255), LACKING, NEGATED, MESSAGES_65)
 
 
 def forecasts():
@@ -167,6 +223,38 @@ def rooms():
     yield holds(deep(8, 254), 0, [0] * 8)
 
 
+def by_hand():
+    """The messages and questions that were worked out by hand, which the listing has to agree with."""
+    for messages, q, line in BY_HAND:
+        data = HEAD + log_of(messages + [[0x30] + q])
+        if printed(data) != line:
+            sys.exit(f"{line} by hand, {printed(data)} by the listing: {messages}, {q}")
+        yield data, line
+
+
+def conveyors():
+    """Questions about messages one by one: Answer, and Holds at every consistent cut and at one that is not; Forecast, which depends on
+    no message, and the cells about it."""
+    for log, messages in SENT:
+        for f in CLEAR:
+            data = log + log_of(messages + [[0x30] + f])
+            yield answer(data, 0)
+            for cut in [*Listing(asked(data, 0)[0]).cuts, (0, 2)]:
+                yield holds(data, 0, cut)
+            if messages == [RECEIVED]:
+                yield foretells(data, 0)
+                for cells in about(data, 0):
+                    yield answer(data, 0, cells)
+                    yield holds(data, 0, (1, 2), cells)
+    for data in CONVEYORS:
+        yield program(data)
+    for data, _ in by_hand():
+        yield program(data)
+        yield foretells(data, 0)
+        yield answer(data, 0)
+        yield holds(data, 0, (1, 1))
+
+
 def cases():
     for data in LOGS:
         yield program(data)
@@ -179,3 +267,4 @@ def cases():
     yield from rooms()
     for q in (0, 1):
         yield answer(ladder(3, 24), q)
+    yield from conveyors()

@@ -2,7 +2,7 @@
 import re
 import sys
 
-from listing import encode
+from listing import encode, operand_sign, parse
 
 ONE = [0x10, 1, 0, 0]
 
@@ -13,6 +13,14 @@ def word(v):
 
 def atom(s=0, lo=0, hi=1):
     return [1, s] + word(lo) + word(hi)
+
+
+def clear(i=0, j=1):
+    return [7, i, j]
+
+
+def message(sender, sent, receiver, received=0):
+    return [0x25, sender, sent, receiver, received]
 
 
 def log_of(frames):
@@ -37,6 +45,11 @@ def long_question(size):
 def line(length):
     """A line of so many bytes, an odd number from 17 to 201, that is in order but for its formula's size: "not" again and again, then 01."""
     return encode([0x30] + [2] * ((length - 1) // 2 - 8) + atom(0, 0, 1))
+
+
+def wrong_check(frame):
+    """A frame's line with a wrong check byte."""
+    return encode(frame)[:-3] + b"%02X\n" % ((1 - sum(frame)) % 256)
 
 
 def padded(data, length):
@@ -119,3 +132,44 @@ def computation(d, n, events, values, messages, step=1):
         seen[s].append(d.below(values) * step)
         frames.append([0x20, s] + word(seen[s][-1]) + clock)
     return frames, seen
+
+
+def receivers(frames, i, sent, j):
+    """The events of station j that have seen an event of station i."""
+    clocks = [f[4:] for f in frames if f[:2] == [0x20, j]]
+    return [k for k, clock in enumerate(clocks, 1) if clock[i] >= sent]
+
+
+def sendings(d, frames, most):
+    """At most so many messages of a computation of two stations or more, of one pair, or of two that share their sender or their receiver:
+    received at any event that has seen the sending, one in six never, and one in six named twice."""
+    n, out = frames[0][1], []
+    sent = [sum(f[:2] == [0x20, s] for f in frames) for s in range(n)]
+    i = d.below(n)
+    j = (i + 1 + d.below(n - 1)) % n
+    third = d.pick([s for s in range(n) if s not in (i, j)] or [j])
+    pairs = [(i, j) for i, j in [(i, j), d.pick([(i, j), (i, third), (third, j)])] if i != j and sent[i]]
+    while pairs and len(out) < most:
+        i, j = d.pick(pairs)
+        k = 1 + d.below(sent[i])
+        came = receivers(frames, i, k, j)
+        if came or d.below(3) == 0:
+            out += [message(i, k, j, d.pick(came) if came and d.below(6) else 0)] * (1 + (d.below(6) == 0))
+    return out[:most]
+
+
+def asked_of(d, frames):
+    """Pairs of stations to ask about: of each message its own four times, its own turned, its sender with itself, and one of any two."""
+    n = frames[0][1]
+    own = [(f[1], f[3]) for f in frames if f[0] == 0x25]
+    return [p for i, j in own for p in [(i, j)] * 4 + [(j, i), (i, i)]] + [(d.below(n), d.below(n))]
+
+
+def with_clear(d, q, pairs):
+    """A formula's bytes with tokens 07 of these pairs in place of half the 01 that are worked out as true, and of one in 16 others."""
+    def spelled(f, sign):
+        if f[0] == 1:
+            return atom(*f[1:]) if d.below(2 if sign else 16) else clear(*d.pick(pairs))
+        return [f[0]] + [b for g in f[1:] for b in spelled(g, operand_sign(f[0], sign))]
+
+    return spelled(parse(q)[0], True)

@@ -4,8 +4,8 @@ Where all events are of one station, or each has seen most before it, the cuts a
 """
 from bases import Rule, drawn, questioned
 from bench_cases import asked, deep, holds, ladder
-from frames import ONE, Draw, atom, case, computation, in_turn, log_of, padded, word
-from listing import OPERATIONS, PROGRAM, encode
+from frames import ONE, Draw, atom, case, clear, computation, in_turn, log_of, message, padded, receivers, sendings, word, wrong_check
+from listing import OPERATIONS, PROGRAM, atoms, encode, true_at
 from read_write import LONGEST, OLD_LOG, full_log
 
 MOST = OPERATIONS.events
@@ -40,11 +40,6 @@ def coupled(d, n, events):
 def chain(d, k):
     """Header and k events of one station."""
     return [ONE] + in_turn(1, k, lambda i: d.below(4))
-
-
-def wrong_check(frame):
-    """A frame's line with a wrong check byte."""
-    return encode(frame)[:-3] + b"%02X\n" % ((1 - sum(frame)) % 256)
 
 
 def at_limit(d, most):
@@ -87,6 +82,28 @@ def logs(d):
     yield padded(LONGEST, OPERATIONS.log)
 
 
+def sent_at_the_ends(d, sends):
+    """The most events, so many of station 0 and then those of station 1; a message of the last sending, and of the first; and questions."""
+    last = MOST - sends
+    events = [[0x20, 0] + word(d.below(4)) + [k, 0] for k in range(1, sends + 1)]
+    events += [[0x20, 1] + word(d.below(4)) + [sends, k] for k in range(1, last + 1)]
+    messages = [message(0, sends, 1, last), message(0, 1, 1, d.pick([0, 1, last]) if last else 0)][:1 + d.below(2)]
+    value = d.pick([atom(0, 0, d.below(4)), atom(1, 0, d.below(4))])
+    questions = [clear(0, 1), clear(1, 0), [2, 5] + clear(0, 1), [6, 2] + clear(0, 1), [3] + clear(0, 1) + value, [3] + value + clear(0, 1)]
+    return log_of([[0x10, 2, 0, 0, 0, 0]] + events + messages + [[0x30] + q for q in questions])
+
+
+def with_messages(d):
+    """Such logs with messages, as many as there may be among them."""
+    for sends in (1, MOST - 1, MOST) * 2:
+        yield sent_at_the_ends(d, sends)
+    for n, k, messages in [(2, 127, 64), (2, MOST, 64), (3, 200, 30), (4, MOST, 64), (6, 192, 10), (8, MOST, 64)]:
+        frames = coupled(d, n, k)
+        yield questioned(d, frames + sendings(d, frames, messages), 4)
+    for n, k, messages in [(2, MOST, 20), (3, 127, 64), (8, MOST, 64)]:
+        yield drawn(d, n, k, 6, messages)
+
+
 # HOLDS
 
 def at_the_end(d, n, s, questions):
@@ -98,14 +115,26 @@ def at_the_end(d, n, s, questions):
     yield holds(data, 0, cut(MOST + 1))
 
 
-def among_many(d):
-    """A log with too many cuts to list them: the empty and the full one, and by the rule the least and the greatest of a question."""
-    frames, seen = computation(d, 4, MOST, 8, 2)
-    data = log_of(frames + [[0x30, 3] + atom(0, seen[0][30], seen[0][30]) + atom(3, seen[3][30], seen[3][30])])
+def at_ends(data):
+    """A question that is "and" over atoms, at the empty and the full cut, and at the least and the greatest where it is true by the rule."""
     log, f = asked(data, 0)
     [structure] = Rule(log).basis(f, True)
-    for cut in [(0,) * 4, tuple(map(len, log.history)), structure.least, structure.top]:
-        yield case("H", data, 0, cut), b"H yes\n" if structure.has(cut) else b"H no\n"
+    for cut in [(0,) * len(log.history), tuple(map(len, log.history)), structure.least, structure.top]:
+        yield case("H", data, 0, cut), b"H yes\n" if all(true_at(log, a, cut) for a in atoms(f)) else b"H no\n"
+
+
+def among_many(d):
+    """A log with too many cuts to list them."""
+    frames, seen = computation(d, 4, MOST, 8, 2)
+    yield from at_ends(log_of(frames + [[0x30, 3] + atom(0, seen[0][30], seen[0][30]) + atom(3, seen[3][30], seen[3][30])]))
+
+
+def on_the_way_among_many(d):
+    """Another one, and the question whether nothing is on the way between two stations while a third has a value. The last never came."""
+    frames, seen = computation(d, 4, MOST, 8, 2)
+    last, value = len(seen[0]) - 1, seen[2][30]
+    messages = [message(0, k, 1, receivers(frames, 0, k, 1)[0]) for k in (last // 4, last // 2)] + [message(0, last, 1)]
+    yield from at_ends(log_of(frames + messages + [[0x30, 3] + atom(2, value, value) + clear(0, 1)]))
 
 
 def cases(seed):
@@ -113,3 +142,4 @@ def cases(seed):
     yield from at_the_end(d, 1, 0, 8)
     yield from at_the_end(d, 2, 1, 2)
     yield from among_many(d)
+    yield from on_the_way_among_many(d)

@@ -2,16 +2,19 @@
 the product.
 
 A log is read with the refusals of document 01 in its order. A set of cuts is the list of its cuts, so raising a cut is a search
-through that list; rounds are counted over such sets. What a question can cost is worked out from its formula alone.
+through that list; rounds are counted over such sets. What is on the way at a cut is a search through the list of messages. What a
+question can cost is worked out from its formula alone.
 """
 from collections import namedtuple
 from functools import cache
 from operator import le
 
 STATIONS, QUESTIONS, LIST = 8, 16, 8192
-Limits = namedtuple("Limits", "events log")  # the most events, and the most bytes of a log
-OPERATIONS, PROGRAM = Limits(254, 16384), Limits(127, 8192)
+Limits = namedtuple("Limits", "events log messages")  # the most events, the most bytes of a log, and the most messages
+OPERATIONS, PROGRAM = Limits(254, 16384, 64), Limits(127, 8192, 64)
+Message = namedtuple("Message", "sender sent receiver received")  # two stations, the numbers of their events; received 0: it never came
 DIGITS = b"0123456789ABCDEF"
+ATOMS = {1: 5, 7: 2}  # the tokens that are no signs, and how many bytes follow each
 
 
 class Refused(Exception):
@@ -29,7 +32,7 @@ class Log:
     """What has been read so far, and by which limits."""
 
     def __init__(self, limits):
-        self.limits, self.initial, self.history, self.questions, self.frames = limits, None, [], [], []
+        self.limits, self.initial, self.history, self.messages, self.questions, self.frames = limits, None, [], [], [], []
 
     def events(self):
         return sum(map(len, self.history))
@@ -66,15 +69,32 @@ def within(lo, hi, v):
     return lo <= v <= hi if lo <= hi else v >= lo or v <= hi
 
 
+def on_the_way(log, i, j, c):
+    """The messages from station i to station j that a cut holds as sent and not as received: document 02, ticket 5."""
+    between = (m for m in log.messages if (m.sender, m.receiver) == (i, j))
+    return [m for m in between if m.sent <= c[i] and (m.received == 0 or m.received > c[j])]
+
+
+def true_at(log, a, c):
+    """Is an atom true at a cut?"""
+    if a[0] == 7:
+        return not on_the_way(log, *a[1:], c)
+    _, s, lo, hi = a
+    return within(lo, hi, log.value(s, c[s]))
+
+
 def parse(q, at=0):
     """The formula at a place of a question, and where it ends; None where there is none."""
     if at >= len(q):
         return None
     t = q[at]
-    if t == 1:
-        if at + 6 > len(q):
+    if t in ATOMS:
+        end = at + 1 + ATOMS[t]
+        if end > len(q):
             return None
-        return (1, q[at + 1], q[at + 2] * 256 + q[at + 3], q[at + 4] * 256 + q[at + 5]), at + 6
+        if t == 7:
+            return (7, *q[at + 1:end]), end
+        return (1, q[at + 1], q[at + 2] * 256 + q[at + 3], q[at + 4] * 256 + q[at + 5]), end
     operands, at = [], at + 1
     for _ in range({2: 1, 3: 2, 4: 2, 5: 1, 6: 1}.get(t, 0)):
         got = parse(q, at)
@@ -86,11 +106,16 @@ def parse(q, at=0):
 
 
 def atoms(f):
-    return [f] if f[0] == 1 else [a for g in f[1:] for a in atoms(g)]
+    return [f] if f[0] in ATOMS else [a for g in f[1:] for a in atoms(g)]
+
+
+def stations(a):
+    """The stations that an atom names."""
+    return a[1:] if a[0] == 7 else a[1:2]
 
 
 def tokens(f):
-    return 1 if f[0] == 1 else 1 + sum(map(tokens, f[1:]))
+    return 1 if f[0] in ATOMS else 1 + sum(map(tokens, f[1:]))
 
 
 def joined_as(t, sign):
@@ -103,7 +128,7 @@ def joined_as(t, sign):
 def size(f, sign, seen):
     """Width and bar count under a sign; seen gathers those of every token."""
     t = f[0]
-    if t == 1:
+    if t in ATOMS:
         w, b = 1, 0
     elif t == 2:
         w, b = size(f[1], not sign, seen)
@@ -126,10 +151,17 @@ def operand_sign(t, sign):
     return {2: not sign, 5: True, 6: False}.get(t, sign)
 
 
+def workable(f, sign):
+    """Is no 07 of a formula worked out as false, where the formula is used under a sign?"""
+    if f[0] in ATOMS:
+        return sign or f[0] == 1
+    return all(workable(g, operand_sign(f[0], sign)) for g in f[1:])
+
+
 def held(f, sign):
     """Structures held under a sign: document 02, ticket 3."""
     t, result = f[0], width(f, sign)
-    if t == 1:
+    if t in ATOMS:
         return 1
     under = operand_sign(t, sign)
     figures, widths = [held(g, under) for g in f[1:]], [width(g, under) for g in f[1:]]
@@ -142,7 +174,7 @@ def held(f, sign):
 
 def products(f, sign):
     """The products of both widths, added up over the signs joined as "and"."""
-    if f[0] == 1:
+    if f[0] in ATOMS:
         return 0
     under = operand_sign(f[0], sign)
     joined = f[0] in (3, 4) and joined_as(f[0], sign) == "and"
@@ -157,6 +189,16 @@ def forecast(log, f):
     return width(f, True), max(b for _, b in seen), structures, structures * len(log.initial) * starts, products(f, True) * starts**2
 
 
+def sound(log, m):
+    """Are a message's stations two and there, its events there, and has the receiving event seen the sending one?"""
+    n = len(log.initial)
+    if m.sender >= n or m.receiver >= n or m.sender == m.receiver:
+        return False
+    if not 1 <= m.sent <= len(log.history[m.sender]) or m.received > len(log.history[m.receiver]):
+        return False
+    return m.received == 0 or log.clock(m.receiver, m.received)[m.sender] >= m.sent
+
+
 def admit(log, f):
     """Takes one frame in, or raises its number."""
     kind, body = f[0], f[1:]
@@ -169,7 +211,7 @@ def admit(log, f):
         log.initial = [body[1 + 2 * i] * 256 + body[2 + 2 * i] for i in range(body[0])]
         log.history = [[] for _ in log.initial]
     elif kind == 0x20:
-        if log.initial is None or log.questions or log.events() >= log.limits.events:
+        if log.initial is None or log.messages or log.questions or log.events() >= log.limits.events:
             raise Refused(4)
         if len(body) != 3 + n or body[0] >= n:
             raise Refused(6)
@@ -181,16 +223,24 @@ def admit(log, f):
             if k > len(log.history[j]) or not contained(log.clock(j, k), clock):
                 raise Refused(7)
         log.history[s].append((body[1] * 256 + body[2], clock))
+    elif kind == 0x25:
+        if log.initial is None or log.questions or len(log.messages) >= log.limits.messages:
+            raise Refused(4)
+        if len(body) != 4 or not sound(log, Message(*body)):
+            raise Refused(15)
+        log.messages.append(Message(*body))
     elif kind == 0x30:
         if log.initial is None or len(log.questions) >= QUESTIONS:
             raise Refused(4)
         got = parse(body)
-        if got is None or got[1] != len(body) or any(a[1] >= n for a in atoms(got[0])):
+        if got is None or got[1] != len(body) or any(s >= n for a in atoms(got[0]) for s in stations(a)):
             raise Refused(8)
         seen = []
         size(got[0], True, seen)
         if tokens(got[0]) > 32 or len(atoms(got[0])) > 12 or any(w > 16 or b > 16 for w, b in seen):
             raise Refused(9)
+        if not workable(got[0], True):
+            raise Refused(16)
         log.questions.append(got[0])
     else:
         raise Refused(4)
@@ -257,8 +307,8 @@ class Walk:
 
     def basis(self, f, sign):
         t = f[0]
-        if t == 1:
-            return self.atom(*f[1:], sign)
+        if t in ATOMS:
+            return self.atom(f, sign)
         if t == 2:
             return self.basis(f[1], not sign)
         if t in (3, 4):
@@ -291,8 +341,8 @@ class Listing(Walk):
     def true(self, f):
         """The cuts at which a formula is true."""
         t = f[0]
-        if t == 1:
-            return [c for c in self.cuts if within(f[2], f[3], self.log.value(f[1], c[f[1]]))]
+        if t in ATOMS:
+            return [c for c in self.cuts if true_at(self.log, f, c)]
         one = set(self.true(f[1]))
         if t == 2:
             return [c for c in self.cuts if c not in one]
@@ -320,8 +370,8 @@ class Listing(Walk):
         both = set(right[0])
         return self.kept([c for c in left[0] if c in both], left[1] + right[1])
 
-    def atom(self, s, lo, hi, sign):
-        return self.kept([c for c in self.cuts if within(lo, hi, self.log.value(s, c[s])) == sign], [])
+    def atom(self, a, sign):
+        return self.kept([c for c in self.cuts if true_at(self.log, a, c) == sign], [])
 
     def below(self, s):
         return self.kept([c for c in self.cuts if contained(c, s[2])], [])

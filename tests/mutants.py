@@ -95,6 +95,62 @@ RULES = {
     },
     "cells of 127 events at most": {"s.held * log.stations() * starts,": "s.held * log.stations() * starts.min(128),"},
     "lower case digits": {"b'A'..=b'F' =>": "b'a'..=b'f' => Ok(b - b'a' + 10),\n        b'A'..=b'F' =>"},
+    "never received taken for received": {"if messages.iter().any(|m| m.received == 0 && m.sent <= c[m.sender]) { NONE } else { c }": "c"},
+    "received in one pass": {"let last = c == *row || c == NONE;": "let last = true;"},
+    "what was due at the start received": {
+        "let last = c == *row || c == NONE;": "let last = true;",
+        "if m.sent <= c[m.sender] && c[m.receiver] < m.received {": "if m.sent <= at[m.sender] && at[m.receiver] < m.received {",
+        "for m in messages.iter().filter(|m| m.received > 0) {": "let at = c;\n        for m in messages.iter().filter(|m| m.received > 0) {",
+    },
+    "received one event early": {"c[m.receiver] < m.received {": "c[m.receiver] + 1 < m.received {"},
+    "received with the event before": {"[m.received as usize].clock": "[m.received as usize - 1].clock"},
+    "received with the event after": {"[m.received as usize].clock": "[(m.received as usize + 1).min(self.log.history[m.receiver].len() - 1)].clock"},
+    "on the way after its sending alone": {
+        "if m.sent <= c[m.sender] && c[m.receiver]": "if m.sent < c[m.sender] && c[m.receiver]",
+        "m.received == 0 && m.sent <= c[m.sender]": "m.received == 0 && m.sent < c[m.sender]",
+    },
+    "sender and receiver exchanged": {"(m.sender, m.receiver) == (sender, receiver)": "(m.receiver, m.sender) == (sender, receiver)"},
+    "messages to any station": {"(m.sender, m.receiver) == (sender, receiver)": "m.sender == sender && sender != receiver"},
+    "messages from any station": {"(m.sender, m.receiver) == (sender, receiver)": "m.receiver == receiver && sender != receiver"},
+    "messages of a station with itself": {
+        "(m.sender, m.receiver) == (sender, receiver)": "m.sender == sender && (m.receiver == receiver || sender == receiver)"
+    },
+    "rounds for what is received": {"                passes += 1;\n": "                passes += 1;\n                self.rounds += 1;\n"},
+    "16 by the token before 07": {
+        "    workable(&mut Tokens(f), true, Fault::ClearJoined)\n":
+            "    let wrong = f.windows(2).any(|w| matches!(w, [Not | Always, Clear { .. }]));\n"
+            "    if wrong { Err(Fault::ClearUnderNot) } else { Ok(()) }\n"
+    },
+    "16 by the number of nots": {"Always => workable(f, false, ": "Always => workable(f, sign, "},
+    "16 under not possibly": {"Possibly => workable(f, true, ": "Possibly => workable(f, sign, "},
+    "16 of the left side alone": {"workable(f, sign, Fault::ClearJoined)?;\n            workable(f, sign, Fault::ClearJoined)": "workable(f, sign, Fault::ClearJoined)?;\n            workable(f, true, Fault::ClearJoined)"},
+    "16 before 9": {"    if f.len() > 32 {\n": "    workable(&mut Tokens(f), true, Fault::ClearJoined)?;\n    if f.len() > 32 {\n"},
+    "07 not among the twelve": {"matches!(t, Range { .. } | Clear { .. })": "matches!(t, Range { .. })"},
+    "07 holds no structure": {"(Range { .. } | Clear { .. }, _) => ONE,": "(Range { .. }, _) => ONE,\n        (Clear { .. }, _) => Size { held: 0, ..ONE },"},
+    "sender of 07 not there": {"if sender.max(receiver) >= stations {": "if receiver >= stations {"},
+    "receiver of 07 not there": {"if sender.max(receiver) >= stations {": "if sender >= stations {"},
+    "65th message accepted": {"if self.messages.len() == self.limits.messages {": "if self.messages.len() == self.limits.messages + 1 {"},
+    "64th message refused": {"if self.messages.len() == self.limits.messages {": "if self.messages.len() + 1 == self.limits.messages {"},
+    "program of 63 messages": {"events: 127, messages: 64,": "events: 127, messages: 63,"},
+    "65th message at fault as 15": {
+        "        if self.messages.len() == self.limits.messages {\n            return Err(Fault::TooManyMessages);\n        }\n": "",
+        "        self.messages.push(m);\n": "        if self.messages.len() == self.limits.messages {\n            return Err(Fault::TooManyMessages);\n        }\n        self.messages.push(m);\n",
+    },
+    "message before the header as 15": {"            0x25 => self.message(": "            0x25 if self.stations() == 0 => Err(Fault::MessageLength),\n            0x25 => self.message("},
+    "message after a question accepted": {"        if !self.questions.is_empty() {\n            return Err(Fault::MessageAfterQuestion);\n        }\n": ""},
+    "event after a message accepted": {"if !self.messages.is_empty() {": "if false {"},
+    "message too long accepted": {"let &[sender, sent, receiver, received] = f else": "let &[sender, sent, receiver, received, ..] = f else"},
+    "message named twice refused": {"        self.messages.push(m);\n": "        if self.messages.contains(&m) {\n            return Err(Fault::MessageLength);\n        }\n        self.messages.push(m);\n"},
+    "receiver not there if it never came": {
+        "self.history.get(m.receiver).ok_or(": "self.history.get(m.receiver).or(self.history.first().filter(|_| received == 0)).ok_or("
+    },
+    "sender equal to receiver accepted": {"if m.sender == m.receiver {": "if false {"},
+    "sender's event 0 accepted": {"if sent == 0 {": "if false {"},
+    "sender's event one too large": {"if sent as usize >= sending.len() {": "if sent as usize > sending.len() {"},
+    "receiver's event too large": {"receiving.get(received as usize).ok_or(": "receiving.get(received as usize).or(receiving.last()).ok_or("},
+    "receiving clock not looked at": {"if received > 0 && event.clock[m.sender] < sent {": "if false {"},
+    "receiving clock one short": {"event.clock[m.sender] < sent {": "event.clock[m.sender] + 1 < sent {"},
+    "receiving clock to count more": {"event.clock[m.sender] < sent {": "event.clock[m.sender] <= sent {"},
 }
 
 # What a case of the corpus prints: what the program does, and of each question its forecast, and what Answer comes to, lent one cell less

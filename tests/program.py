@@ -14,10 +14,10 @@ import tempfile
 import time
 
 from bases import answered
-from bench_cases import ALL, BENCH, HEAD, HEADER, WIDE18, ZERO, chain, ladder
-from frames import ONE, Draw, atom, in_turn, log_of, padded, word
+from bench_cases import ALL, BENCH, CONVEYORS, HEAD, HEADER, MESSAGES_65, RECEIVED, WIDE18, ZERO, by_hand, chain, ladder
+from frames import ONE, Draw, atom, clear, in_turn, log_of, message, padded, sendings, word
 from listing import OPERATIONS, PROGRAM, atoms, encode, printed, read, size, tokens
-from read_write import LONGEST, full_log
+from read_write import FRAMES, LONGEST, full_log
 
 ROOT = pathlib.Path(__file__).resolve().parent.parent
 MOMENTS = ROOT / "target" / "bin" / "moments"
@@ -30,33 +30,36 @@ def refusal(number, line):
 
 # FILES
 
-def question(d, lead):
-    """Four two-way ors and four tokens 01 joined by and, with a lead: width 16, 32 tokens, 12 of them 01."""
-    parts = [atom(d.below(8), d.below(2), 2 + d.below(2)) for _ in range(12)]
+def question(d, lead, clears):
+    """Four two-way ors and four tokens 01 joined by and, with a lead: width 16, 32 tokens, 12 of them 01, or so many of these 07."""
+    parts = [atom(d.below(8), d.below(2), 2 + d.below(2)) for _ in range(12 - clears)]
+    parts += [clear(d.below(8), d.below(8)) for _ in range(clears)]
     for i in range(9 - len(lead)):
         parts[i] = [d.pick([2, 5, 6])] + parts[i]
     ors = [[4] + parts[2 * i] + parts[2 * i + 1] for i in range(4)]
     return lead + [3] * 7 + [b for p in ors + parts[8:] for b in p]
 
 
-def at_every_limit():
-    """The longest log that is accepted: 8 stations, 127 events, 16 questions, each with the most tokens, atoms, and width or bars."""
+def at_every_limit(messages=0):
+    """8 stations, 127 events, so many messages, 16 questions, each with the most tokens, atoms, and width or bars: without messages the
+    longest log of that kind, and with some questions about them too."""
     d = Draw(20261116)
     frames, last = [[0x10, 8] + [b for _ in range(8) for b in word(d.below(4))]], [[0] * 8 for _ in range(8)]
     for i in range(PROGRAM.events):
         s = i % 8
         last[s] = [max(pair) + (j == s) for j, pair in enumerate(zip(last[s], last[d.below(8)]))]
         frames.append([0x20, s] + word(d.below(4)) + last[s])
-    return log_of(frames + [[0x30] + question(d, [[2, 2], [2, 5], [5], [6, 2]][i % 4]) for i in range(16)])
+    frames += sendings(d, frames, messages) if messages else []
+    return log_of(frames + [[0x30] + question(d, [[2, 2], [2, 5], [5], [6, 2]][i % 4], 3 if messages else 0) for i in range(16)])
 
 
 def examples():
-    """The logs of examples/, each with the line that README.md shows for it."""
-    shown = re.findall(r"^    \$ \./answer\.sh (\S+)\n    (\S+)$", (ROOT / "README.md").read_text(), re.M)
+    """The logs of examples/, each with the lines that README.md shows for it."""
+    shown = re.findall(r"^    \$ \./answer\.sh (\S+)\n((?:    \S+\n)+)", (ROOT / "README.md").read_text(), re.M)
     if sorted(name for name, _ in shown) != sorted(str(path.relative_to(ROOT)) for path in (ROOT / "examples").iterdir()):
         sys.exit("README.md does not show each log of examples/ once")
-    for name, line in shown:
-        yield name, (ROOT / name).read_bytes(), line.encode() + b"\n"
+    for name, lines in shown:
+        yield name, (ROOT / name).read_bytes(), lines.replace(" ", "").encode()
 
 
 def over():
@@ -71,6 +74,53 @@ def over():
     yield "254 events of eight stations, 8,192 bytes", full_log(PROGRAM.log, 7), at_129
     yield "254 events of eight stations, 8,193 bytes", full_log(PROGRAM.log + 1, 8), refusal(1, 0)
     yield "the longest that the operations take", LONGEST, refusal(1, 0)
+
+
+# Frames of read_write.py that are refused at their last one, and with which number.
+MESSAGES_AT_FAULT = {
+    "message first": 4,
+    "message after a question": 4,
+    "event after a message": 4,
+    "message too short": 15,
+    "message too long": 15,
+    "sender not there": 15,
+    "receiver not there, never received": 15,
+    "sender's event 0": 15,
+    "sender's event too large, never received": 15,
+    "receiver's event too large": 15,
+    "sender equal to receiver": 15,
+    "receiving clock counts one less": 15,
+    "07 with one operand": 8,
+    "07, station of the sender not there": 8,
+    "07, station of the receiver not there": 8,
+    "13 tokens 07": 9,
+    "13 tokens 07 as false": 9,
+    "12 tokens 07 as false": 16,
+    "not 07": 16,
+    "always 07": 16,
+    "not always 07": 16,
+    "not of or with 07 right": 16,
+}
+
+
+def conveyors():
+    """Logs with messages: questions about them, both sides of 64, and each refusal that is new with them."""
+    full = at_every_limit(64)
+    for data in CONVEYORS:
+        yield "sixteen questions about messages", data, None
+    for data, line in by_hand():
+        yield "a question about messages, worked out by hand", data, line
+    yield "every limit, 64 messages", full, None
+    yield "every limit, 64 messages, without the last 0A", full[:-1], refusal(2, 208)
+    yield "8,192 bytes, 64 messages, the 17th question at line 209", padded(full, PROGRAM.log), refusal(4, 209)
+    yield "64 messages", HEAD + log_of([RECEIVED] * 64 + [[0x30] + clear()]), b"400101010200000000BB\n"
+    yield "65 messages", MESSAGES_65, refusal(4, 69)
+    for name in [name for name in FRAMES if name.startswith("65th message")]:
+        yield name, log_of(FRAMES[name]), refusal(4, 69)
+    yield "128 events, then a message", log_of([ONE] + in_turn(1, 128, lambda i: i % 3) + [message(0, 1, 0)]), refusal(4, 129)
+    yield "127 events, then a message at fault", log_of([ONE] + in_turn(1, 127, lambda i: i % 3) + [message(0, 1, 0)]), refusal(15, 129)
+    for name, number in MESSAGES_AT_FAULT.items():
+        yield name, log_of(FRAMES[name]), refusal(number, len(FRAMES[name]))
 
 
 def files():
@@ -108,6 +158,7 @@ def files():
     yield "ladder of 3 stations", ladder(3, 24), None
     yield "ladder of 8 stations", ladder(8, 127), None
     yield "ranges through zero", ZERO, None
+    yield from conveyors()
     yield from examples()
 
 
@@ -158,7 +209,7 @@ def at_limits(data):
 def main():
     if not MOMENTS.exists():
         sys.exit("target/bin/moments is not there: run rt check moments")
-    if set(at_limits(at_every_limit())) != {(32, 12, 16)}:
+    if {*at_limits(at_every_limit()), *at_limits(at_every_limit(64))} != {(32, 12, 16)}:
         sys.exit("a question is not at every limit")
     cases = wrong = 0
     for name, data, by_hand in files():

@@ -1,5 +1,5 @@
 """The cases of Read and Write about document 01's limits and refusals, and what is to come of each."""
-from frames import ONE, atom, case, exactly, in_turn, log_of, long_question, padded
+from frames import ONE, atom, case, clear, exactly, in_turn, log_of, long_question, message, padded, wrong_check
 from listing import LIST, OPERATIONS, Refused, encode, read, read_frames
 
 OLD_LIST, OLD_LOG = 4096, 8192  # the longest list and log, and the least outputs, before document 02's ticket 4
@@ -17,10 +17,10 @@ def chain(k):
 EIGHT = [0x10, 8] + [0, 7] * 8
 
 
-def largest(events):
-    """The longest accepted log of so many events: eight stations, 16 questions of 32 tokens, 12 of them 01."""
+def largest(events, messages=0):
+    """The longest accepted log of so many events and messages: eight stations, 16 questions of 32 tokens, 12 of them 01."""
     question = [0x30] + [2] * 9 + [3] * 11 + atom(7, 1, 65535) * 12
-    return [EIGHT] + in_turn(8, events, lambda i: 256) + [question] * 16
+    return [EIGHT] + in_turn(8, events, lambda i: 256) + [message(6, 1, 7, 1)] * messages + [question] * 16
 
 
 def entries(fs):
@@ -85,7 +85,7 @@ FRAMES = {
     "clock below one that it counts": [[0x10, 3] + [0] * 6, [0x20, 0, 0, 1, 1, 0, 0], [0x20, 1, 0, 1, 1, 1, 0], [0x20, 2, 0, 1, 0, 1, 1]],
     "clock good": [[0x10, 3] + [0] * 6, [0x20, 0, 0, 1, 1, 0, 0], [0x20, 1, 0, 1, 1, 1, 0], [0x20, 2, 0, 1, 1, 1, 1]],
     "question of one byte": [HEADER, [0x30]],
-    "unknown token": [HEADER, [0x30, 7]],
+    "unknown token": [HEADER, [0x30, 9]],
     "short operand": [HEADER, [0x30] + atom()[:-1]],
     "trailing byte": [HEADER, QUESTION + [0]],
     "one operand for and": [HEADER, [0x30, 3] + atom()],
@@ -122,6 +122,123 @@ FRAMES = {
     "17th question malformed": [HEADER] + [QUESTION] * 16 + [[0x30]],
     "the longest of 127 events": largest(127),
     "the longest": largest(254),
+    "the longest of 127 events with messages": largest(127, 64),
+    "the longest with messages": largest(254, 64),
+}
+
+# Stations 0 and 1: one event that event 2 of station 1 has seen and event 1 has not; two, the second seen by event 2 alone.
+BENCH = FRAMES["bench"][:-1]
+TWO = [HEADER, EVENT, [0x20, 0, 0, 6, 2, 0], [0x20, 1, 0, 1, 1, 1], [0x20, 1, 0, 2, 2, 2]]
+MESSAGE = message(0, 1, 1, 2)
+FULL64 = BENCH + [MESSAGE] * 64
+
+# The same about messages: frames in place and not, message frames, and questions with 07 behind one.
+FRAMES |= {
+    "message": BENCH + [MESSAGE],
+    "message never received": BENCH + [message(0, 1, 1)],
+    "message whose receiver has no event": [HEADER, EVENT, message(0, 1, 1)],
+    "message the other way never received": BENCH + [message(1, 2, 0)],
+    "message named twice": BENCH + [MESSAGE] * 2,
+    "messages and questions": TWO + [message(0, 2, 1, 2), message(0, 1, 1), message(1, 1, 0), [0x30] + clear(), QUESTION],
+    "receiving clock counts just the sending": TWO + [message(0, 2, 1, 2), message(0, 1, 1, 1)],
+    "receiving clock counts more": TWO + [message(0, 1, 1, 2)],
+    "receiving clock counts one less": TWO + [message(0, 2, 1, 1)],
+    "receiving clock counts none": BENCH + [message(0, 1, 1, 1)],
+    "receiving clock of the other station": BENCH + [message(1, 2, 0, 1)],
+    "message of one byte": BENCH + [[0x25]],
+    "message of two bytes": BENCH + [[0x25, 0]],
+    "message too short": BENCH + [MESSAGE[:-1]],
+    "message too long": BENCH + [MESSAGE + [0]],
+    "message of 99 bytes": BENCH + [[0x25] + [0] * 98],
+    "sender not there": BENCH + [message(2, 1, 1, 2)],
+    "sender not there, never received": BENCH + [message(2, 1, 1)],
+    "receiver not there": BENCH + [message(0, 1, 2, 1)],
+    "receiver not there, never received": BENCH + [message(0, 1, 2)],
+    "stations 255": BENCH + [message(255, 1, 255, 1)],
+    "sender's event 0": BENCH + [message(0, 0, 1, 2)],
+    "sender's event 0, never received": BENCH + [message(0, 0, 1)],
+    "sender's event too large": BENCH + [message(0, 2, 1, 2)],
+    "sender's event too large, never received": BENCH + [message(0, 2, 1)],
+    "receiver's event too large": BENCH + [message(0, 1, 1, 3)],
+    "receiver's event 255": BENCH + [message(0, 1, 1, 255)],
+    "sender equal to receiver": BENCH + [message(1, 1, 1, 2)],
+    "sender equal to receiver, never received": BENCH + [message(1, 1, 1)],
+    "no event to send": [HEADER, message(0, 1, 1)],
+    "message of the only station": [ONE] + chain(2) + [message(0, 1, 0, 2)],
+    "message of event 254": [HEADER] + [e + [0] for e in chain(254)] + [message(0, 254, 1)],
+    "message of event 255": [HEADER] + [e + [0] for e in chain(254)] + [message(0, 255, 1)],
+    "message first": [MESSAGE],
+    "message first, of one byte": [[0x25]],
+    "message after a question": BENCH + [QUESTION, MESSAGE],
+    "message after a question, of one byte": BENCH + [QUESTION, [0x25]],
+    "event after a message": BENCH + [MESSAGE, [0x20, 1, 0, 3, 1, 3]],
+    "event after a message, of one byte": BENCH + [MESSAGE, [0x20]],
+    "header after a message": BENCH + [MESSAGE, HEADER],
+    "64 messages": FULL64 + [QUESTION],
+    "64th message at fault": FULL64[:-1] + [message(0, 1, 1, 1)],
+    "65 messages": FULL64 + [MESSAGE],
+    "65th message of one byte": FULL64 + [[0x25]],
+    "65th message too long": FULL64 + [MESSAGE + [0]],
+    "65th message, sender not there": FULL64 + [message(2, 1, 1, 2)],
+    "65th message, receiver not there": FULL64 + [message(0, 1, 2, 2)],
+    "65th message, sender's event 0": FULL64 + [message(0, 0, 1, 2)],
+    "65th message, receiver's event too large": FULL64 + [message(0, 1, 1, 3)],
+    "65th message, sender equal to receiver": FULL64 + [message(1, 1, 1, 2)],
+    "65th message, receiving clock lacks the sending": FULL64 + [message(0, 1, 1, 1)],
+    "07 alone": [HEADER, [0x30, 7]],
+    "07 without messages": [HEADER, [0x30] + clear()],
+    **{name: BENCH + [MESSAGE, [0x30] + q] for name, q in {
+        "07": clear(),
+        "07 of one station": clear(1, 1),
+        "07 not received by anyone": clear(1, 0),
+        "07 and no more": [7],
+        "07 with one operand": clear()[:-1],
+        "07 with one operand under and": [3] + atom() + clear()[:-1],
+        "07 with a trailing byte": clear() + [0],
+        "07, station of the sender not there": clear(2, 1),
+        "07, station of the receiver not there": clear(0, 2),
+        "07, station not there, as false": [2] + clear(0, 2),
+        "07 with one operand as false": [2, 7, 0],
+        "not not 07": [2, 2] + clear(),
+        "always not 07": [6, 2] + clear(),
+        "possibly 07": [5] + clear(),
+        "not possibly 07": [2, 5] + clear(),
+        "always possibly 07": [6, 5] + clear(),
+        "not always not 07": [2, 6, 2] + clear(),
+        "07 under and, or": [3, 4] + clear() + atom() + clear(1, 0),
+        "07 under and, or as false twice": [2, 3, 4, 2] + clear() + atom() + [2] + clear(1, 0),
+        "not 07": [2] + clear(),
+        "not 07 of one station": [2] + clear(1, 1),
+        "always 07": [6] + clear(),
+        "not always 07": [2, 6] + clear(),
+        "possibly not 07": [5, 2] + clear(),
+        "possibly always 07": [5, 6] + clear(),
+        "not not not 07": [2, 2, 2] + clear(),
+        "not 07 left of and": [3, 2] + clear() + atom(),
+        "not 07 right of or": [4] + atom() + [2] + clear(),
+        "not of and with 07 left": [2, 3] + clear() + atom(),
+        "not of or with 07 right": [2, 4] + atom() + clear(),
+        "always of and with 07 right": [6, 3] + atom() + clear(),
+        "always of or with 07 left": [6, 4] + clear() + atom(),
+        "07 as true and as false": [3] + clear() + [2] + clear(),
+        "12 tokens 07": [4] * 11 + clear() * 12,
+        "13 tokens 07": [4] * 12 + clear() * 13,
+        "12 tokens 01 and 07": [4] * 11 + atom() * 6 + clear() * 6,
+        "13 tokens 01 and 07, the last 07": [4] * 12 + atom() * 12 + clear(),
+        "13 tokens 01 and 07, the last 01": [4] * 12 + clear() * 12 + atom(),
+        "32 tokens with 07": [2] * 30 + [5] + clear(),
+        "33 tokens with 07": [2] * 32 + clear(),
+        "32 tokens, 07 as false": [2] * 31 + clear(),
+        "34 tokens, 07 as false": [2] * 33 + clear(),
+        "12 tokens 07 as false": [2] + [4] * 11 + clear() * 12,
+        "13 tokens 07 as false": [2] + [4] * 12 + clear() * 13,
+        "width 16 with 07": [3, 3] + OR2 + OR2 + [3] + OR2 + [4] + atom() + clear(),
+        "width 18 with 07": [3, 3] + OR3 + OR3 + [4] + clear() * 2,
+        "width 18, 07 as false": [3, 2] + clear() + [3, 3] + OR3 + OR3 + OR2,
+        "bars 18, 07 as false": [3, 6, 2, 3] + OR3 + OR3 + [6, 2, 3] + OR3 + [4, 4] + atom() * 2 + [2] + clear(),
+        "34 tokens, 07 with one operand": [2] * 33 + clear()[:-1],
+        "13 tokens 07, the last one's station not there": [4] * 12 + clear() * 12 + clear(2, 0),
+    }.items()},
 }
 
 GOOD = log_of(FRAMES["bench"])
@@ -136,6 +253,8 @@ LOGS = [
     encode(HEADER) + encode(HEADER)[:-3] + b"00\n", encode([0x60])[:-3] + b"00\n",
     log_of([ONE] + chain(255))[:-3] + b"00\n", full_log(OLD_LOG, 7), full_log(OLD_LOG + 1, 8),
     padded(LONGEST, OPERATIONS.log), padded(LONGEST, OPERATIONS.log + 1), b"0" * OPERATIONS.log, b"0" * (OPERATIONS.log + 1),
+    log_of(BENCH) + wrong_check(message(0, 1, 1, 1)), log_of(FULL64) + wrong_check([0x25]), wrong_check(MESSAGE),
+    log_of(BENCH + [MESSAGE])[:-1], log_of(BENCH + [MESSAGE, [0x30, 2] + clear()])[:-1],
 ]
 
 # Frame lists at fault, and some at the limits of their length.
@@ -143,6 +262,7 @@ LISTS = [
     [], [0], [100] + [0] * 100, [5, 0x10, 1], [1, 0x10], [1], [4, 0x10, 1, 0, 0, 0], [4, 0x10, 1, 0, 0, 99] + [0] * 99, [6] + HEADER + [255],
     [1, 0] * 2048, [1, 0] * 2048 + [1], [4, 0x10, 1, 0, 0] + [99] + [0x30] * 99,
     full_list(OLD_LIST, 9), full_list(OLD_LIST + 1, 9), padded_list(LONGEST_LIST, LIST), padded_list(LONGEST_LIST, LIST + 1),
+    entries(BENCH) + [5] + MESSAGE[:-1], entries(BENCH) + [5] + message(0, 1, 1, 1) + [0], entries(BENCH) + [100] + MESSAGE,
 ]
 
 

@@ -3,7 +3,7 @@
 use crate::arena;
 use crate::codes::{Peer, PEERS};
 use compare::check::Case;
-use compare::log::{OPERATIONS, PROGRAM, QUESTIONS};
+use compare::log::{Log, OPERATIONS, PROGRAM, QUESTIONS};
 use compare::operations::{self, printed, BARS, LINE, WORKSPACE};
 use std::fs::read;
 use std::panic::{catch_unwind, set_hook, take_hook, AssertUnwindSafe};
@@ -88,14 +88,26 @@ fn answers(log: &[u8]) -> Vec<u8> {
     lines
 }
 
-/// Whether a log is accepted and has more events than the program takes.
-fn large(log: &[u8]) -> bool {
-    operations::read(log, &mut [0; OPERATIONS.list]).is_ok_and(|[_, events, _, _]| events > PROGRAM.events)
+/// How many logs there were, and of the accepted ones how many of more events than the program takes, and with messages.
+#[derive(Default)]
+pub struct Seen {
+    pub logs: u64,
+    pub large: u64,
+    pub messages: u64,
 }
 
-/// How many logs there were, and how many accepted ones of more events than the program takes; or the first on which a code differs. One
-/// that panics does, and says no more than that, since a report of its own would be written in the array that it is lent.
-pub fn run(logs: u64, seed: u64) -> Result<(u64, u64), String> {
+impl Seen {
+    fn meet(&mut self, log: &[u8]) {
+        self.logs += 1;
+        let Ok(log) = Log::read(OPERATIONS, log) else { return };
+        self.large += (log.events > PROGRAM.events) as u64;
+        self.messages += !log.messages.is_empty() as u64;
+    }
+}
+
+/// What was seen; or the first log on which a code differs. One that panics does, and says no more than that, since a report of its own
+/// would be written in the array that it is lent.
+pub fn run(logs: u64, seed: u64) -> Result<Seen, String> {
     let usual = take_hook();
     set_hook(Box::new(|_| {}));
     let out = compared(logs, seed);
@@ -103,22 +115,21 @@ pub fn run(logs: u64, seed: u64) -> Result<(u64, u64), String> {
     out
 }
 
-fn compared(logs: u64, seed: u64) -> Result<(u64, u64), String> {
+fn compared(logs: u64, seed: u64) -> Result<Seen, String> {
     let (stdin, stdout) = (file("stdin")?, file("stdout")?);
     let (cases, outputs) = (cases(&stdin).unwrap_or_default(), outputs(&stdout));
     if cases.is_empty() || cases.len() != outputs.len() {
         return Err(format!("{CASES} has {} cases and {} outputs", cases.len(), outputs.len()));
     }
-    let (mut corpus, mut larger) = (0, 0);
+    let mut seen = Seen::default();
     for ((_, log), output) in cases.iter().zip(&outputs).filter(|((letter, _), _)| b"EP".contains(letter)) {
-        corpus += 1;
-        larger += large(log) as u64;
-        all_equal(&format!("log {corpus} of {CASES}"), log, &shown(output))?;
+        seen.meet(log);
+        all_equal(&format!("log {} of {CASES}", seen.logs), log, &shown(output))?;
     }
     for seed in seed..seed + logs {
         let Case { log, .. } = Case::new(seed);
-        larger += large(&log) as u64;
+        seen.meet(&log);
         all_equal(&format!("the log of `bench check 1 {seed}`"), &log, &Expected { printed: printed(&log), answers: answers(&log) })?;
     }
-    Ok((corpus + logs, larger))
+    Ok(seen)
 }

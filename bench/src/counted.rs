@@ -1,7 +1,7 @@
 //! Instructions of the whole program under callgrind, and its memory under massif.
 use crate::codes::{cells, filled, head, names, PEERS};
-use crate::timed::{rounds, wide_log};
-use compare::log::{line, OPERATIONS, PROGRAM, QUESTIONS};
+use crate::timed::{message_log, rounds, wide_log};
+use compare::log::{line, Limits, OPERATIONS, PROGRAM, QUESTIONS};
 use std::env::{current_exe, vars_os};
 use std::fmt::Write;
 use std::fs::{create_dir_all, write, File};
@@ -15,6 +15,15 @@ fn file(name: &str, log: &[u8]) -> String {
     let path = format!("{FOLDER}/{name}.log");
     create_dir_all(FOLDER).and_then(|_| write(&path, log)).unwrap();
     path
+}
+
+/// The log of a row of a table, and its name.
+fn row_log(stations: usize, events: usize, messages: usize, questions: usize) -> (String, Vec<u8>) {
+    let name = format!("{stations}x{events}");
+    match messages {
+        0 => (name, wide_log(stations, events, questions)),
+        _ => (name + "-messages", message_log(stations, events, messages, questions)),
+    }
 }
 
 /// What a program prints on a log, and what valgrind's tool tells of it. The environment is bare, as a process's start depends on it.
@@ -44,6 +53,7 @@ fn ten_reads(log: &str) -> u64 {
 pub struct Program {
     stations: usize,
     events: usize,
+    messages: usize,
     bytes: usize,
     rounds: u64,
     pub proved: u64,
@@ -53,9 +63,8 @@ pub struct Program {
     read: f64,
 }
 
-fn program(stations: usize, events: usize) -> Program {
-    let (data, bare) = (wide_log(stations, events, 16), wide_log(stations, events, 0));
-    let name = format!("{stations}x{events}");
+fn program(stations: usize, events: usize, messages: usize) -> Program {
+    let ((name, data), (_, bare)) = (row_log(stations, events, messages, 16), row_log(stations, events, messages, 0));
     let (asked, unasked, empty) = (file(&name, &data), file(&(name + "-bare"), &bare), file("empty", b""));
     let bench = current_exe().unwrap();
     let (printed, proved) = instructions(&[MOMENTS], &asked);
@@ -70,6 +79,7 @@ fn program(stations: usize, events: usize) -> Program {
     Program {
         stations,
         events,
+        messages,
         bytes: data.len(),
         rounds,
         proved,
@@ -80,30 +90,33 @@ fn program(stations: usize, events: usize) -> Program {
     }
 }
 
-/// For 2 to 8 stations and for fewer events; the last is the largest log that the program takes.
+/// For 2 to 8 stations, for fewer events, and with messages; the last has the most events that the program takes.
 pub fn programs() -> Vec<Program> {
-    let most = PROGRAM.events;
-    [(2, most), (3, most), (4, most), (6, most), (8, 32), (8, 64), (8, most)].map(|(stations, events)| program(stations, events)).into()
+    let Limits { events: most, messages: all, .. } = PROGRAM;
+    let rows = [(2, most, 0), (3, most, 0), (4, most, 0), (6, most, 0), (8, 32, 0), (8, 64, 0), (8, most, all), (8, most, 0)];
+    rows.map(|(stations, events, messages)| program(stations, events, messages)).into()
 }
 
 pub fn section(programs: &[Program]) -> String {
     let mut page = String::from(include_str!("counted.md"));
-    page += &head(format!("| stations | events | log bytes | rounds | proved | {} | proved, a log byte | proved, a round | Read, a log byte |", names()));
+    let costs = "proved, a log byte | proved, a round | Read, a log byte";
+    page += &head(format!("| stations | events | messages | log bytes | rounds | proved | {} | {costs} |", names()));
     for p in programs {
-        let Program { stations, events, bytes, rounds, proved, peers, per_byte, per_round, read } = p;
+        let Program { stations, events, messages, bytes, rounds, proved, peers, per_byte, per_round, read } = p;
         let peers = cells(|i| peers[i].to_string());
-        writeln!(page, "| {stations} | {events} | {bytes} | {rounds} | {proved} | {peers} | {per_byte:.0} | {per_round:.0} | {read:.2} |").unwrap();
+        let (log, costs) = (format!("{stations} | {events} | {messages} | {bytes}"), format!("{per_byte:.0} | {per_round:.0} | {read:.2}"));
+        writeln!(page, "| {log} | {rounds} | {proved} | {peers} | {costs} |").unwrap();
     }
     page
 }
 
-/// Instructions of Read, and of Answer by each code, on the largest log that the program takes and on two that it does not.
+/// Instructions of Read, and of Answer by each code, on logs of the most events that the program takes and on some that it does not.
 pub fn calls_section() -> String {
-    let (few, many, mut page) = (PROGRAM.events, OPERATIONS.events, filled(include_str!("calls.md")));
-    page += &head(format!("| stations | events | log bytes | rounds | Read | Read, a log byte | Answer, proved | {} |", names()));
-    for (stations, events) in [(8, few), (4, many), (8, many)] {
-        let (data, bench) = (wide_log(stations, events, QUESTIONS), current_exe().unwrap());
-        let log = file(&format!("{stations}x{events}"), &data);
+    let (few, many, all, mut page) = (PROGRAM.events, OPERATIONS.events, OPERATIONS.messages, filled(include_str!("calls.md")));
+    page += &head(format!("| stations | events | messages | log bytes | rounds | Read | Read, a log byte | Answer, proved | {} |", names()));
+    for (stations, events, messages) in [(8, few, 0), (8, few, all), (4, many, 0), (8, many, 0), (8, many, all)] {
+        let ((name, data), bench) = (row_log(stations, events, messages, QUESTIONS), current_exe().unwrap());
+        let log = file(&name, &data);
         let (bytes, read) = (data.len(), ten_reads(&log));
         let process = |code: &str, times: &str| instructions(&[bench.to_str().unwrap(), "answer", code, times], &log);
         let (_, beginning) = process("proved", "0");
@@ -119,7 +132,8 @@ pub fn calls_section() -> String {
         });
         let rounds = lines.split_inclusive('\n').map(|l| rounds(l.as_bytes())).sum::<u64>() as f64 / QUESTIONS as f64;
         let per_byte = read as f64 / (10 * bytes) as f64;
-        writeln!(page, "| {stations} | {events} | {bytes} | {rounds:.0} | {} | {per_byte:.2} | {proved} | {peers} |", read / 10).unwrap();
+        let log = format!("{stations} | {events} | {messages} | {bytes}");
+        writeln!(page, "| {log} | {rounds:.0} | {} | {per_byte:.2} | {proved} | {peers} |", read / 10).unwrap();
     }
     page
 }
@@ -201,8 +215,9 @@ fn memory_on(log: String) -> Memory {
     Memory { heap: most("mem_heap_B="), stack: most("mem_stacks_B="), log }
 }
 
-pub fn memory() -> [Memory; 3] {
-    [file("8x127", &wide_log(8, 127, 16)), file("deep", &deep_log()), file("refused", &refused_log())].map(memory_on)
+pub fn memory() -> [Memory; 4] {
+    let [(plain, few), (sent, many)] = [0, PROGRAM.messages].map(|messages| row_log(8, 127, messages, 16));
+    [file(&plain, &few), file(&sent, &many), file("deep", &deep_log()), file("refused", &refused_log())].map(memory_on)
 }
 
 pub fn memory_section(memory: &[Memory]) -> String {

@@ -19,6 +19,7 @@ mod plot;
 mod spin;
 mod timed;
 
+use check::Seen;
 use codes::{cells, filled, head, ratio_names, PEERS};
 use compare::log::PROGRAM;
 use compare::operations::WORKSPACE;
@@ -101,7 +102,7 @@ fn refuse(why: &str) -> ! {
     end(2, why)
 }
 
-fn checked(logs: u64, seed: u64) -> (u64, u64) {
+fn checked(logs: u64, seed: u64) -> Seen {
     check::run(logs, seed).unwrap_or_else(|why| end(1, &why))
 }
 
@@ -115,8 +116,9 @@ fn main() {
         ["answer", code, times] => return once::answer(code, times),
         ["check", ref numbers @ ..] if numbers.len() < 3 => {
             let number = |i: usize, usual| numbers.get(i).map_or(usual, |n| n.parse().unwrap_or_else(|_| refuse("usage: bench check [LOGS] [SEED]")));
-            let (logs, large) = checked(number(0, check::LOGS), number(1, check::SEED));
-            return println!("{logs} logs, {large} of them of more than {} events and accepted, all equal", PROGRAM.events);
+            let Seen { logs, large, messages } = checked(number(0, check::LOGS), number(1, check::SEED));
+            let accepted = format!("{large} accepted of more than {} events, {messages} accepted with messages", PROGRAM.events);
+            return println!("{logs} logs, {accepted}, all equal");
         }
         [folder] => folder,
         [] => "docs",

@@ -1,6 +1,6 @@
 //! The basis in plain Rust: cuts handed on by value, a row an Option, a structure its rows by station.
 use compare::formula::{within, Token, Tokens};
-use compare::log::{contained, Cut, Log, OPERATIONS};
+use compare::log::{contained, Cut, Log, Message, OPERATIONS};
 use compare::operations::{answer_line, printed_by};
 
 fn join(c: &Cut, d: &Cut) -> Cut {
@@ -62,6 +62,15 @@ impl Plain<'_> {
                 let h = &self.log.history[station];
                 let next = |c: &Cut| (c[station] as usize..h.len()).find(|&k| within(lo, hi, h[k].value) == sign);
                 self.build(vec![], |_, c| next(c).map(|k| join(c, &h[k].clock))).into_iter().collect()
+            }
+            (Token::Clear { sender, receiver }, _) => {
+                let h = &self.log.history[receiver];
+                let of_pair = |m: &&Message| (m.sender, m.receiver) == (sender, receiver);
+                let messages: Vec<Message> = self.log.messages.iter().filter(of_pair).copied().collect();
+                let due = |m: &Message, c: &Cut| m.sent <= c[sender] && (m.received == 0 || c[receiver] < m.received);
+                let clear = |c: &Cut| !messages.iter().any(|m| due(m, c));
+                let next = |c: &Cut| h[c[receiver] as usize..].iter().map(|e| join(c, &e.clock)).find(clear);
+                self.build(vec![], |_, c| next(c)).into_iter().collect()
             }
             (Token::Not, _) => self.basis(f, !sign),
             (Token::And, true) | (Token::Or, false) => {

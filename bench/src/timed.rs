@@ -6,7 +6,7 @@ use compare::formula::Tokens;
 use compare::log::{Log, OPERATIONS, PROGRAM};
 use compare::made::{self, Shape};
 use compare::operations::{BARS, LINE, WORKSPACE};
-use compare::{listing, proved};
+use compare::{listing, messages, proved};
 use std::env::current_exe;
 use std::fmt::{Display, Formatter, Result, Write};
 use std::hint::black_box;
@@ -91,13 +91,38 @@ impl Row {
     }
 }
 
-/// A log with questions of width 16, one event in three of which has seen another station. A shorter one is the beginning of a longer.
-pub fn wide_log(stations: usize, events: usize, questions: usize) -> Vec<u8> {
-    let (d, asked) = (&mut Draw(0), &mut Draw(1));
-    let shape = Shape { stations, events, questions: 0, ranges: 0, step: 1, zero: 0 };
+/// Events, one in three of which has seen another station. Fewer are the beginning of more.
+fn wide_frames(shape: Shape) -> Vec<Vec<u8>> {
+    let d = &mut Draw(0);
     let mut fs = vec![made::header(d, shape)];
     fs.extend(made::events(d, shape, 3));
+    fs
+}
+
+/// A log of these with questions of width 16.
+pub fn wide_log(stations: usize, events: usize, questions: usize) -> Vec<u8> {
+    let asked = &mut Draw(1);
+    let shape = Shape { stations, events, questions: 0, ranges: 0, step: 1, zero: 0 };
+    let mut fs = wide_frames(shape);
     fs.extend((0..questions).map(|_| [vec![0x30], made::product(asked, shape, &[2, 2, 2, 2])].concat()));
+    made::lines(&fs)
+}
+
+/// The same with messages of four pairs, and questions of which every second atom is a token 07 of one of these.
+pub fn message_log(stations: usize, events: usize, messages: usize, questions: usize) -> Vec<u8> {
+    let (d, asked) = (&mut Draw(2), &mut Draw(1));
+    let shape = Shape { stations, events, questions: 0, ranges: 0, step: 1, zero: 0 };
+    let mut fs = wide_frames(shape);
+    let (clocks, pairs) = (messages::clocks(&fs, stations), [0; 4].map(|_| messages::pair(d, stations)));
+    let sent = (0..messages).map(|k| messages::received(d, &clocks, pairs[k % 4], 4).expect("an event that has seen the sender"));
+    fs.extend(sent.collect::<Vec<_>>());
+    for _ in 0..questions {
+        let mut q = vec![0x30, 3, 3, 3];
+        for [i, j] in pairs {
+            q.extend([vec![4], made::range(asked, shape), vec![7, i as u8, j as u8]].concat());
+        }
+        fs.push(q);
+    }
     made::lines(&fs)
 }
 

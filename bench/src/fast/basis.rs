@@ -57,6 +57,12 @@ impl<'a> Finder<'a> {
                 }
                 &f[6..]
             }
+            (7, _) => {
+                let mut s = self.fresh(None);
+                self.sets.lay_clear(f[1] as usize, f[2] as usize, &mut s.rows);
+                if s.rows[0] == NONE { &mut self.spare } else { &mut self.standing }.push(s);
+                &f[3..]
+            }
             (2, _) => self.basis(rest, !sign),
             (3, true) | (4, false) => {
                 let rest = self.basis(rest, sign);

@@ -9,6 +9,9 @@ pub type Refusal = (u8, u16);
 const LINE: usize = 100;
 type Frame = [u8; LINE + 8];
 
+/// Sender, its event, receiver, its event or 0.
+pub type Message = [u8; 4];
+
 /// An accepted log.
 pub struct Log {
     pub stations: usize,
@@ -18,6 +21,7 @@ pub struct Log {
     before: [usize; STATIONS + 1],
     /// Each station's initial value and those of its events.
     values: Vec<u16>,
+    pub messages: Vec<Message>,
     /// The questions' formulas, one after the other, and where each ends.
     formulas: Vec<u8>,
     ends: Vec<usize>,
@@ -83,8 +87,9 @@ struct Formula<'a> {
     rest: &'a [u8],
     stations: usize,
     tokens: usize,
-    ranges: usize,
+    atoms: usize,
     over: bool,
+    unworkable: bool,
 }
 
 impl Formula<'_> {
@@ -100,7 +105,17 @@ impl Formula<'_> {
                     return None;
                 }
                 self.rest = rest;
-                self.ranges += 1;
+                self.atoms += 1;
+                (1, 0)
+            }
+            (7, _) => {
+                let (&[sender, receiver], rest) = rest.split_first_chunk()?;
+                if sender.max(receiver) as usize >= self.stations {
+                    return None;
+                }
+                self.rest = rest;
+                self.atoms += 1;
+                self.unworkable |= !sign;
                 (1, 0)
             }
             (2, _) => return self.size(!sign),
@@ -126,7 +141,7 @@ const PLACES: usize = 256;
 
 /// A log as far as it has been read.
 struct Reader {
-    most: usize,
+    limits: Limits,
     stations: usize,
     initial: [u16; STATIONS],
     events: usize,
@@ -137,6 +152,7 @@ struct Reader {
     at: [[u8; PLACES]; STATIONS],
     /// How many events of each station there are.
     counts: Cut,
+    messages: Vec<Message>,
     formulas: Vec<u8>,
     ends: Vec<usize>,
 }
@@ -161,7 +177,7 @@ impl Reader {
     }
 
     fn event(&mut self, n: usize, frame: &Frame) -> Result<(), u8> {
-        if self.stations == 0 || !self.ends.is_empty() || self.events == self.most {
+        if self.stations == 0 || !self.ends.is_empty() || !self.messages.is_empty() || self.events == self.limits.events {
             return Err(4);
         }
         let station = frame[1] as usize;
@@ -189,16 +205,38 @@ impl Reader {
         Ok(())
     }
 
+    fn message(&mut self, f: &[u8]) -> Result<(), u8> {
+        if self.stations == 0 || !self.ends.is_empty() || self.messages.len() == self.limits.messages {
+            return Err(4);
+        }
+        let &[sender, sent, receiver, received] = f else { return Err(15) };
+        let (i, j) = (sender as usize, receiver as usize);
+        if i.max(j) >= self.stations || i == j || sent == 0 || sent > count(self.counts, i) || received > count(self.counts, j) {
+            return Err(15);
+        }
+        if received > 0 && count(self.clock(j, received), i) < sent {
+            return Err(15);
+        }
+        if self.messages.is_empty() {
+            self.messages.reserve(self.limits.messages);
+        }
+        self.messages.push([sender, sent, receiver, received]);
+        Ok(())
+    }
+
     fn question(&mut self, formula: &[u8]) -> Result<(), u8> {
         if self.stations == 0 || self.ends.len() == QUESTIONS {
             return Err(4);
         }
-        let mut f = Formula { rest: formula, stations: self.stations, tokens: 0, ranges: 0, over: false };
+        let mut f = Formula { rest: formula, stations: self.stations, tokens: 0, atoms: 0, over: false, unworkable: false };
         if f.size(true).is_none() || !f.rest.is_empty() {
             return Err(8);
         }
-        if f.over || f.tokens > 32 || f.ranges > 12 {
+        if f.over || f.tokens > 32 || f.atoms > 12 {
             return Err(9);
+        }
+        if f.unworkable {
+            return Err(16);
         }
         self.formulas.extend(formula);
         self.ends.push(self.formulas.len());
@@ -217,7 +255,7 @@ impl Reader {
             values.extend(events.iter().map(|&i| self.values[i as usize]));
             before[j + 1] = starts.len() - 1;
         }
-        Log { stations: self.stations, starts, before, values, formulas: self.formulas, ends: self.ends }
+        Log { stations: self.stations, starts, before, values, messages: self.messages, formulas: self.formulas, ends: self.ends }
     }
 }
 
@@ -226,7 +264,7 @@ pub fn read(limits: Limits, data: &[u8]) -> Result<Log, Refusal> {
         return Err((1, 0));
     }
     let mut reader = Reader {
-        most: limits.events,
+        limits,
         stations: 0,
         initial: [0; STATIONS],
         events: 0,
@@ -234,6 +272,7 @@ pub fn read(limits: Limits, data: &[u8]) -> Result<Log, Refusal> {
         values: [0; PLACES],
         at: [[0; PLACES]; STATIONS],
         counts: 0,
+        messages: Vec::new(),
         formulas: Vec::with_capacity(QUESTIONS * LINE),
         ends: Vec::with_capacity(QUESTIONS),
     };
@@ -244,6 +283,7 @@ pub fn read(limits: Limits, data: &[u8]) -> Result<Log, Refusal> {
         let admitted = match frame[0] {
             0x10 => reader.header(&frame[1..n - 1]),
             0x20 => reader.event(n, &frame),
+            0x25 => reader.message(&frame[1..n - 1]),
             0x30 => reader.question(&frame[1..n - 1]),
             _ => Err(4),
         };

@@ -1,7 +1,8 @@
 //! Sets and pairs of them, by what holds of raising a cut to the least cut of a set that contains it:
 //!
 //! - an event's clock is raised to the event's row, a cut of the set is not raised, and a join is raised to the join of what its parts are;
-//! - a range raises a cut to its join with the clock of one event: the first of the station, from the cut's count on, with such a value.
+//! - a range raises a cut to its join with the clock of one event: the first of the station, from the cut's count on, with such a value;
+//! - "nothing on the way" does so too, with an event of the receiver that follows from the cut's count of the sender.
 //!
 //! So where one side of a pair is a range, each half round joins the cut with one clock or with one row of the other side, and through
 //! which events it goes depends on the count of the range's station alone. The rounds are worked out once for each count, and a start
@@ -108,6 +109,34 @@ impl<'a> Sets<'a> {
         next[0] = if range.has(values[0]) { 0 } else { clock };
         for (c, &start) in s.rows.iter_mut().zip(&log.starts) {
             *c = join(start, next[count(start, range.station) as usize]);
+        }
+    }
+
+    /// Lays the rows of the cuts with nothing on the way from one station to another.
+    pub fn lay_clear(&mut self, sender: usize, receiver: usize, rows: &mut [Cut]) {
+        let (log, mut due) = (self.log, [0u8; COUNTS]);
+        for &[i, sent, j, received] in &log.messages {
+            if (i as usize, j as usize) == (sender, receiver) {
+                let entry = &mut due[sent as usize];
+                *entry = (*entry).max(received.wrapping_sub((received == 0) as u8));
+            }
+        }
+        let (events, clocks) = (log.rows(&log.starts, sender).len(), log.rows(&log.starts, receiver));
+        (1..=events).for_each(|x| due[x] = due[x].max(due[x - 1]));
+        // By the sender's count, from the last: what is due, and if its event has seen a later sending, what is due by that.
+        let next = &mut self.tables.above;
+        for x in (0..=events).rev() {
+            next[x] = match due[x] {
+                0 => 0,
+                255 => NONE,
+                k => {
+                    let (clock, y) = (clocks[k as usize - 1], count(clocks[k as usize - 1], sender) as usize);
+                    if y <= x { clock } else { next[y] }
+                }
+            };
+        }
+        for (c, &start) in rows.iter_mut().zip(&log.starts) {
+            *c = join(start, next[count(start, sender) as usize]);
         }
     }
 

@@ -6,6 +6,7 @@ use mathlib.Core.List.{List, [], _∷_, _++_}
 use Prim.Native.Nat.{ℕ, suc, _+_, _-_, _<_, _≤_}
 use native.Mathlib.Omega.{arith}
 use native.Mathlib.Nat.{le-trans}
+use native.Mathlib.Decide.{ℕ-discrete}
 use lib.Dec.{eqb}
 use borrow.Author.Tests.{eq-eqb, ne-eqb, lt-ltb, le-ltb, eqb-true, eqb-false}
 use lib.ListN.{length, take, drop, getD, set, length-drop, length-set}
@@ -14,17 +15,19 @@ use Rattle.model.specs.declared.Limits.{Limits}
 use Rattle.model.specs.Limits.{limits, slotSize, storeSize}
 use Rattle.model.specs.Frames.{word}
 use Rattle.model.specs.Computation.{Computation, stations, count, clockOk, clock, value}
-use Rattle.model.specs.Reading.{Reading, check, stationOf, eventForm, extended, withEvent, admit, admitEvent, go, fault}
+use Rattle.model.specs.Reading.{Reading, unasked, unsent, check, stationOf, eventForm, extended, withEvent, admit, admitEvent, go, fault}
 use Rattle.codec.specs.Limits.{NoLarger}
+use Rattle.codec.proofs.Snoc.{empty-list}
 use Rattle.cells.specs.Put.{putOf}
 use Rattle.lattice.proofs.Histories.{eventCount-extended, count-same, count-other, value-old, value-new, clock-old, clock-new}
 use Rattle.table.specs.Table.{slot, Stored}
 use Rattle.table.proofs.Parts.{part-same, part-other}
+use Rattle.table.proofs.Messages.{none-posted}
 use Rattle.table.proofs.Slots.{apart, word-take, value-at, clock-at}
 use Rattle.frame.specs.declared.State.{State}
 use Rattle.frame.specs.declared.Step.the-variants.{Next}
 use Rattle.frame.specs.State.{afterEvent, Bounded, Represents, Goes, Admits}
-use Rattle.frame.proofs.Steps.{Frame, kind-event, kind-front, begun-not, begun-yes, unasked-not, unasked-yes, events-full, events-room}
+use Rattle.frame.proofs.Steps.{Frame, kind-event, kind-front, begun-not, begun-yes, unasked-not, unasked-yes, unsent-not, unsent-yes, events-full, events-room}
 
 -- FAULTS
 
@@ -36,27 +39,37 @@ module _ (m : Limits) {r : Reading} {s : State} {f t : List ℕ} (g : Frame 0x20
   unfolding admitEvent check
   before-header e = tried ∙ rw (begun-not (g .holds) e)
 
-  pub after-question : (s .questions ≡ 0 → ⊥) → admit m r f ≡ fault 4
+  -- after a question or a message
+  pub too-late : (s .questions + s .messages ≡ 0 → ⊥) → admit m r f ≡ fault 4
   unfolding admitEvent check
-  after-question e = tried ∙ rw (unasked-not (g .holds) e) (simp and-false)
+  too-late e = tried ∙ case (ℕ-discrete (s .questions) 0) where
+    case : Dec (s .questions ≡ 0) → admitEvent m r (drop 1 f) ≡ fault 4
+    case (yes z) = rw (unsent-not (g .holds) (λ x. e (omega arith))) (simp and-false)
+    case (no z) = rw (unasked-not (g .holds) z) (simp and-false)
 
   pub too-many : m .events ≤ s .events → admit m r f ≡ fault 4
   unfolding admitEvent check
   too-many e = tried ∙ rw (events-full (g .holds) m e) (simp and-false)
 
   -- the frame is in place
-  module _ (a : s .stations ≡ 0 → ⊥) (b : s .questions ≡ 0) (c : s .events < m .events) where
+  module _ (a : s .stations ≡ 0 → ⊥) (b : s .questions + s .messages ≡ 0) (c : s .events < m .events) where
+    none-asked : unasked r ≡ true
+    none-asked = unasked-yes (g .holds) (omega arith)
+
+    none-sent : unsent r ≡ true
+    none-sent = unsent-yes (g .holds) (omega arith)
+
     pub wrong-length : (length f ≡ s .stations + 4 → ⊥) → admit m r f ≡ fault 6
     unfolding admitEvent check eventForm
     wrong-length e =
         let l : length (drop 1 f) ≡ length f - 1 = length-drop 1 f in
-        tried ∙ rw (begun-yes (g .holds) a, unasked-yes (g .holds) b, events-room (g .holds) m c, ne-eqb (length (drop 1 f)) (stations (r .computation) + 3) (λ z. e (omega (arith, g .holds .stored .size, g .some-bytes))))
+        tried ∙ rw (begun-yes (g .holds) a, none-asked, none-sent, events-room (g .holds) m c, ne-eqb (length (drop 1 f)) (stations (r .computation) + 3) (λ z. e (omega (arith, g .holds .stored .size, g .some-bytes))))
 
     pub no-station : s .stations ≤ getD f 1 0 → admit m r f ≡ fault 6
     unfolding admitEvent check eventForm
     no-station e =
         let j : getD (drop 1 f) 0 0 ≡ getD f 1 0 = getD-drop 1 f 0 0 in
-        tried ∙ rw (begun-yes (g .holds) a, unasked-yes (g .holds) b, events-room (g .holds) m c, le-ltb (getD (drop 1 f) 0 0) (stations (r .computation)) (omega (arith, g .holds .stored .size))) (simp and-false)
+        tried ∙ rw (begun-yes (g .holds) a, none-asked, none-sent, events-room (g .holds) m c, le-ltb (getD (drop 1 f) 0 0) (stations (r .computation)) (omega (arith, g .holds .stored .size))) (simp and-false)
 
     -- its form is right
     module _ (l : length f ≡ s .stations + 4) (j : ℕ) (is : j ≡ getD f 1 0) (there : j < s .stations) where
@@ -65,7 +78,7 @@ module _ (m : Limits) {r : Reading} {s : State} {f t : List ℕ} (g : Frame 0x20
       formed =
           let k : stationOf (drop 1 f) ≡ j = getD-drop 1 f 0 0 ∙ sym is in
           let w : length (drop 1 f) ≡ stations (r .computation) + 3 = omega (arith, length-drop 1 f, g .holds .stored .size) in
-          tried ∙ rw (begun-yes (g .holds) a, unasked-yes (g .holds) b, events-room (g .holds) m c, k, w, eq-eqb (stations (r .computation) + 3) (stations (r .computation) + 3) refl, lt-ltb j (stations (r .computation)) (omega (arith, g .holds .stored .size)), drop-drop 1 1 f, drop-drop 3 1 f)
+          tried ∙ rw (begun-yes (g .holds) a, none-asked, none-sent, events-room (g .holds) m c, k, w, eq-eqb (stations (r .computation) + 3) (stations (r .computation) + 3) refl, lt-ltb j (stations (r .computation)) (omega (arith, g .holds .stored .size)), drop-drop 1 1 f, drop-drop 3 1 f)
 
       pub clock-wrong : clockOk (r .computation) j (drop 4 f) ≡ false → admit m r f ≡ fault 7
       unfolding check
@@ -176,6 +189,7 @@ module _ {m : Limits} (up : NoLarger m limits) {s : State} (b : Bounded m s) (j 
   bounded-more = record {
     few-stations = b .few-stations;
     few-events = omega arith;
+    few-messages = b .few-messages;
     few-questions = b .few-questions;
     eight = length-set (s .counts) j (getD (s .counts) j 0 + 1) ∙ b .eight;
     each = λ i. case i (eqb i j) refl;
@@ -195,7 +209,7 @@ module _ {m : Limits} (up : NoLarger m limits) {s : State} (b : Bounded m s) (j 
       let n : s .stations ≡ length (drop 4 f) = omega (arith, length-drop 4 f) in
       sym (rw a at e K (rw (← n) g))
 
-  goes : {r : Reading} {f t : List ℕ} (g : Frame 0x20 r s f t) (s′ : State) (t′ : List ℕ) → length t ≡ storeSize → (s .stations ≡ 0 → ⊥) → s .questions ≡ 0 → length f ≡ s .stations + 4 → j ≡ getD f 1 0
+  goes : {r : Reading} {f t : List ℕ} (g : Frame 0x20 r s f t) (s′ : State) (t′ : List ℕ) → length t ≡ storeSize → (s .stations ≡ 0 → ⊥) → s .questions + s .messages ≡ 0 → length f ≡ s .stations + 4 → j ≡ getD f 1 0
       → clockOk (r .computation) j (drop 4 f) ≡ true → s′ ≡ afterEvent s j → t′ ≡ putOf t (slot j (getD (s .counts) j 0 + 1)) (drop 2 f) → Goes m r f s′ t′
   unfolding extended
   goes {r} {f} {t} g s′ t′ long a q l is ok e u =
@@ -209,14 +223,16 @@ module _ {m : Limits} (up : NoLarger m limits) {s : State} (b : Bounded m s) (j 
         frames = ap (λ (x : List ℕ). r .frames ++ (x ∷ [])) (kind-front f 0x20 (g .some-bytes) (g .kind));
         holds = rw (e, u, k, drop-drop 1 1 f, drop-drop 3 1 f, ← d) (record {
           stored = stored-more (h .stored) (h .sizes) (le-trans (b .few-stations) (up .stations)) (b .eight) long j there (λ i. omega (arith, b .each i, up .events)) (drop 2 f) (omega (arith, length-drop 2 f));
+          posted = none-posted _ (empty-list (r .computation .messages) (omega (arith, h .messages)));
           sizes = length-set (r .computation .events) j _ ∙ h .sizes;
           events = ap (λ (x : ℕ). x + 1) (h .events) ∙ omega (arith, eventCount-extended (r .computation) j (record { value = word (drop 2 f); clock = drop 2 (drop 2 f) }) i);
+          messages = h .messages;
           questions = h .questions;
         });
       }
 
   -- the frame is admitted
-  pub event-next : (f : List ℕ) {t : List ℕ} (s′ : State) (t′ : List ℕ) → 1 ≤ length f → getD f 0 0 ≡ 0x20 → length t ≡ storeSize → (s .stations ≡ 0 → ⊥) → s .questions ≡ 0 → length f ≡ s .stations + 4 → j ≡ getD f 1 0
+  pub event-next : (f : List ℕ) {t : List ℕ} (s′ : State) (t′ : List ℕ) → 1 ≤ length f → getD f 0 0 ≡ 0x20 → length t ≡ storeSize → (s .stations ≡ 0 → ⊥) → s .questions + s .messages ≡ 0 → length f ≡ s .stations + 4 → j ≡ getD f 1 0
       → ((K : Computation) → Stored K (s .stations) (s .counts) t → clockOk K j (drop 4 f) ≡ true) → s′ ≡ afterEvent s j → t′ ≡ putOf t (slot j (getD (s .counts) j 0 + 1)) (take (length f - 2) (drop 2 f))
       → Admits m s f t (record { step = Next; state = s′ }) t′
   event-next f {t} s′ t′ n k long a q l is ok e u =

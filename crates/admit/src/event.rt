@@ -38,7 +38,7 @@ pub(crate) fn event(m: model::Limits, s: State, frame: &[u8], store: &mut [u8]) 
     if n == 0 {
         return Admitted::faulty(s, model::Fault::Kind);
     }
-    if s.questions != 0 {
+    if s.questions + s.messages != 0 {
         return Admitted::faulty(s, model::Fault::Kind);
     }
     if m.events <= s.events {

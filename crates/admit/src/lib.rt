@@ -6,6 +6,7 @@ use frame::Admitted;
 use frame::State;
 use frame::header::header;
 use frame::question::question;
+use messages::message;
 ghost use mathlib.Core.Path.{_≡_};
 ghost use Prim.Native.Nat.{_≤_};
 ghost use lib.ListN.{length};
@@ -23,8 +24,9 @@ pub fn admit(m: model::Limits, s: State, frame: &[u8], store: &mut [u8]) -> Admi
     match kind {
         0x10 => header(m, s, frame, store),
         0x20 => event(m, s, frame, store),
+        0x25 => message(m, s, frame, store),
         0x30 => question(m, s, frame),
-        0x00..=0x0F | 0x11..=0x1F | 0x21..=0x2F | 0x31..=0xFF => Admitted::faulty(
+        0x00..=0x0F | 0x11..=0x1F | 0x21..=0x24 | 0x26..=0x2F | 0x31..=0xFF => Admitted::faulty(
             s,
             model::Fault::Kind,
         ),

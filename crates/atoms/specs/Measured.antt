@@ -7,6 +7,7 @@ use mathlib.Core.Option.{Option, none, some}
 use lib.ListN.{length, drop}
 use Rattle.model.specs.Formula as model
 use Rattle.model.specs.Formula.{ahead}
+use Rattle.model.specs.Rules.{workable}
 use Rattle.lattice.specs.Signed.{normal}
 use Rattle.codec.specs.Formulas.{formulas}
 use Rattle.atoms.specs.declared.Size.{Size}
@@ -29,6 +30,7 @@ pub record Sized (n : ℕ) (s : Bool) (q : List ℕ) (z : Size) : Type 0 where
   pub tokens : z .tokens ≡ model.tokens formula
   pub atoms : z .atoms ≡ model.atoms formula
   pub sound : z .sound ≡ model.sound n formula
+  pub workable : z .workable ≡ workable (normal s formula)
   pub extent : z .extent ≡ extentOf (normal s formula)
 
 abbrev pub Measured : ℕ → Bool → List ℕ → Front → Type 0

@@ -13,6 +13,7 @@ use borrow.Rule.Slice.PartMut.{putMid, same-len-mid}
 use Rattle.model.specs.Lists.{total}
 use Rattle.model.specs.Formula.{Formula, prefix, sound, tokens}
 use Rattle.model.specs.Computation.{Computation, full}
+use Rattle.model.specs.Rules.{workable}
 use Rattle.model.specs.Rules.Normal.{both}
 use Rattle.model.specs.Size.{width, bars, held, narrow}
 use Rattle.model.specs.Structure.{Structure}
@@ -136,6 +137,7 @@ module _ (s b : Bool) (shape : Shape) (q q′ starts values : List ℕ) (w₀ b�
       reads = d₂ ∙ tokens.second q u (prefix f₁) (prefix f₂ ++ r .rest) reads-two used-is;
       known = and-true (sound (shape .n) f₁) (sound (shape .n) f₂) .0 (sym (ap (sound (shape .n)) is-two ∙ signed.sound-two (shape .n) b f₁ f₂) ∙ r .known) .1;
       slim = slims .1;
+      works = and-true (workable (normal s f₁)) (workable (normal s f₂)) .0 (sym (ap (λ (f : Formula). workable (normal s f)) is-two ∙ signed.workable-two s b f₁ f₂) ∙ r .works) .1;
       short = omega (arith, r .short, ap tokens is-two, signed.weigh-two 1 1 1 b f₁ f₂);
       cells-fit = part-room (c * size) (held (normal s f₂) * size) w cells-two;
       bars-fit = part-room (c * slot) (held (normal s f₂) * slot) bs bars-two;

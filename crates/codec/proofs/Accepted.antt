@@ -14,9 +14,10 @@ use Rattle.model.specs.Lists.{between}
 use Rattle.model.specs.Bytes.{linesOf, Item, frame, bad, items}
 use Rattle.model.specs.Frames.{words, framesOf}
 use Rattle.model.specs.Formula.{Formula, formulaOf, sound}
-use Rattle.model.specs.Computation.{stations, eventCount, clockOk}
+use Rattle.model.specs.Computation.{stations, eventCount, clockOk, messageOk}
+use Rattle.model.specs.Rules.{asTrue, workable}
 use Rattle.model.specs.Size.{fits}
-use Rattle.model.specs.Reading.{Reading, nothing, begun, Step, go, fault, check, headerForm, withHeader, admitHeader, stationOf, eventOf, eventForm, withEvent, unasked, admitEvent, withQuestion, asked, admitQuestion, admit, Result, refused, accepted, finish, proceed, readItems, readLog, readFrames, readList}
+use Rattle.model.specs.Reading.{Reading, nothing, begun, Step, go, fault, check, headerForm, withHeader, admitHeader, stationOf, eventOf, eventForm, withEvent, unasked, unsent, admitEvent, messageOf, withMessage, admitMessage, withQuestion, asked, admitQuestion, admit, Result, refused, accepted, finish, proceed, readItems, readLog, readFrames, readList}
 use Rattle.codec.proofs.Bytes.{length-words}
 use Rattle.codec.proofs.Cases.{cases, and-true, between-true}
 
@@ -29,10 +30,19 @@ pub data Admission (m : Limits) (r : Reading) : List ℕ → Reading → Type 0 
       {f : List ℕ}
       → begun r ≡ true
       → unasked r ≡ true
+      → unsent r ≡ true
       → ltb (eventCount (r .computation)) (m .events) ≡ true
       → eventForm (stations (r .computation)) f ≡ true
       → clockOk (r .computation) (stationOf f) (eventOf f .clock) ≡ true
       → Admission m r (0x20 ∷ f) (withEvent r f)
+  a-message :
+      {f : List ℕ}
+      → begun r ≡ true
+      → unasked r ≡ true
+      → ltb (length (r .computation .messages)) (m .messages) ≡ true
+      → eqb (length f) 4 ≡ true
+      → messageOk (r .computation) (messageOf f) ≡ true
+      → Admission m r (0x25 ∷ f) (withMessage r f)
   a-question :
       {f : List ℕ} {φ : Formula}
       → begun r ≡ true
@@ -40,6 +50,7 @@ pub data Admission (m : Limits) (r : Reading) : List ℕ → Reading → Type 0 
       → formulaOf f ≡ some φ
       → sound (stations (r .computation)) φ ≡ true
       → fits φ ≡ true
+      → workable (asTrue φ) ≡ true
       → Admission m r (0x30 ∷ f) (withQuestion r f φ)
 
 fault-go : {B : Type 0} {k : ℕ} {r : Reading} → fault k ≡ go r → B
@@ -62,13 +73,25 @@ module _ (m : Limits) (r s : Reading) (f : List ℕ) where
   by-event : admitEvent m r f ≡ go s → Admission m r (0x20 ∷ f) s
   unfolding admitEvent
   by-event e =
-      let a = check-go 4 (begun r && unasked r && ltb (eventCount (r .computation)) (m .events)) _ s e in
-      let t = and-true (begun r && unasked r) (ltb (eventCount (r .computation)) (m .events)) (a .0) in
-      let u = and-true (begun r) (unasked r) (t .0) in
+      let a = check-go 4 (begun r && unasked r && unsent r && ltb (eventCount (r .computation)) (m .events)) _ s e in
+      let t = and-true (begun r && unasked r && unsent r) (ltb (eventCount (r .computation)) (m .events)) (a .0) in
+      let v = and-true (begun r && unasked r) (unsent r) (t .0) in
+      let u = and-true (begun r) (unasked r) (v .0) in
       let b = check-go 6 (eventForm (stations (r .computation)) f) _ s (a .1) in
       let c = check-go 7 (clockOk (r .computation) (stationOf f) (eventOf f .clock)) _ s (b .1) in
       let n : withEvent r f ≡ s = cc (c .1) in
-      rw (← n) (a-event (u .0) (u .1) (t .1) (b .0) (c .0))
+      rw (← n) (a-event (u .0) (u .1) (v .1) (t .1) (b .0) (c .0))
+
+  by-message : admitMessage m r f ≡ go s → Admission m r (0x25 ∷ f) s
+  unfolding admitMessage
+  by-message e =
+      let a = check-go 4 (begun r && unasked r && ltb (length (r .computation .messages)) (m .messages)) _ s e in
+      let t = and-true (begun r && unasked r) (ltb (length (r .computation .messages)) (m .messages)) (a .0) in
+      let u = and-true (begun r) (unasked r) (t .0) in
+      let b = check-go 15 (eqb (length f) 4 && messageOk (r .computation) (messageOf f)) _ s (a .1) in
+      let v = and-true (eqb (length f) 4) (messageOk (r .computation) (messageOf f)) (b .0) in
+      let n : withMessage r f ≡ s = cc (b .1) in
+      rw (← n) (a-message (u .0) (u .1) (t .1) (v .0) (v .1))
 
   by-asked : (o : Option Formula) → formulaOf f ≡ o → begun r ≡ true → ltb (length (r .questions)) (m .questions) ≡ true → asked r f o ≡ go s → Admission m r (0x30 ∷ f) s
   unfolding asked
@@ -76,8 +99,9 @@ module _ (m : Limits) (r s : Reading) (f : List ℕ) where
   by-asked (some φ) p h g e =
       let a = check-go 8 (sound (stations (r .computation)) φ) _ s e in
       let b = check-go 9 (fits φ) _ s (a .1) in
-      let n : withQuestion r f φ ≡ s = cc (b .1) in
-      rw (← n) (a-question h g p (a .0) (b .0))
+      let c = check-go 16 (workable (asTrue φ)) _ s (b .1) in
+      let n : withQuestion r f φ ≡ s = cc (c .1) in
+      rw (← n) (a-question h g p (a .0) (b .0) (c .0))
 
   by-question : admitQuestion m r f ≡ go s → Admission m r (0x30 ∷ f) s
   unfolding admitQuestion
@@ -93,15 +117,17 @@ admitted m r s [] e = fault-go e
 admitted m r s (k ∷ f) e =
     cases (eqb k 0x10) e (λ t e. rw (eqb-true k 0x10 t) (by-header m r s f e)) (λ t e.
     cases (eqb k 0x20) e (λ t e. rw (eqb-true k 0x20 t) (by-event m r s f e)) (λ t e.
+    cases (eqb k 0x25) e (λ t e. rw (eqb-true k 0x25 t) (by-message m r s f e)) (λ t e.
     cases (eqb k 0x30) e (λ t e. rw (eqb-true k 0x30 t) (by-question m r s f e)) (λ t e.
-    fault-go e)))
+    fault-go e))))
 
 -- A frame that passed the tests of its kind is let in.
 pub admission-go : {m : Limits} {r s : Reading} {f : List ℕ} → Admission m r f s → admit m r f ≡ go s
-unfolding admit admitHeader admitEvent admitQuestion asked check
+unfolding admit admitHeader admitEvent admitMessage admitQuestion asked check
 admission-go (a-header a b) = rw (a, b)
-admission-go (a-event a b c d e) = rw (a, b, c, d, e)
-admission-go (a-question a b c d e) = rw (a, b, c, d, e)
+admission-go (a-event a b c d e f) = rw (a, b, c, d, e, f)
+admission-go (a-message a b c d e) = rw (a, b, c, d, e)
+admission-go (a-question a b c d e f) = rw (a, b, c, d, e, f)
 
 -- WHAT THE TESTS SAY
 
@@ -116,6 +142,10 @@ begun-false r h = omega (arith, ltb-false 0 (stations (r .computation)) h)
 pub unasked-true : (r : Reading) → unasked r ≡ true → length (r .questions) ≡ 0
 unfolding unasked
 unasked-true r h = eqb-true (length (r .questions)) 0 h
+
+pub unsent-true : (r : Reading) → unsent r ≡ true → length (r .computation .messages) ≡ 0
+unfolding unsent
+unsent-true r h = eqb-true (length (r .computation .messages)) 0 h
 
 -- A header without its kind: the number of stations is within its limit, and each brings a value.
 pub record Header (m : Limits) (f : List ℕ) : Type 0 where
@@ -177,8 +207,9 @@ accepted-begun m n r s (frame f ∷ l) e =
 
 pub admitted-frames : {m : Limits} {r s : Reading} {f : List ℕ} → Admission m r f s → s .frames ≡ r .frames ++ (f ∷ [])
 admitted-frames (a-header h g) = refl
-admitted-frames (a-event h g k t u) = refl
-admitted-frames (a-question h g k t u) = refl
+admitted-frames (a-event h g s k t u) = refl
+admitted-frames (a-message h g k t u) = refl
+admitted-frames (a-question h g k t u w) = refl
 
 -- What is kept are the frames that were read, and every line brought one.
 pub accepted-items : (m : Limits) (n : ℕ) (r s : Reading) (l : List Item) → readItems m n r l ≡ accepted s → map frame (s .frames) ≡ map frame (r .frames) ++ l

@@ -1,5 +1,6 @@
 -- Atoms and their bytes: an atom is read back from its bytes, and bytes that are read as an atom are its bytes.
 use mathlib.Core.Path.{_≡_, refl, ap₂}
+use mathlib.Core.Logic.{_⊎_, inl, inr}
 use mathlib.Core.List.{List, [], _∷_, _++_}
 use mathlib.Core.Option.{none, some}
 use Prim.Native.Nat.{ℕ, zero, suc, _+_, _*_, _/_, _%_, _<_, _≤_}
@@ -9,27 +10,34 @@ use lib.ListN.{length, take}
 use borrow.Author.Tests.{eqb-true, ne-eqb}
 use Rattle.model.specs.Frames.{word}
 use Rattle.model.specs.Atom.{Atom, atomBytes, operands, atomOf}
-use Rattle.model.specs.Atom.Atom.{inRange}
+use Rattle.model.specs.Atom.Atom.{inRange, clear}
 use Rattle.codec.proofs.Bytes.{Bytes}
 use Rattle.codec.proofs.Cases.{none-some, cases}
 
 -- TOKENS
 
 -- The tokens of atoms, each with its bytes.
-token-some : (t k : ℕ) → operands t ≡ some k → (t ≡ 1) × (k ≡ 5)
+token-some : (t k : ℕ) → operands t ≡ some k → ((t ≡ 1) × (k ≡ 5)) ⊎ ((t ≡ 7) × (k ≡ 2))
 unfolding operands
-token-some t k e = cases (eqb t 1) e (λ h e. (eqb-true t 1 h, cc)) (λ h e. none-some e)
+token-some t k e =
+    cases (eqb t 1) e (λ h e. inl (eqb-true t 1 h, cc)) (λ h e.
+    cases (eqb t 7) e (λ h e. inr (eqb-true t 7 h, cc)) (λ h e.
+    none-some e))
 
 -- Any other token is no atom's, a sign's for one.
-pub token-none : (t : ℕ) → (t ≡ 1 → ⊥) → operands t ≡ none
+pub token-none : (t : ℕ) → (t ≡ 1 → ⊥) → (t ≡ 7 → ⊥) → operands t ≡ none
 unfolding operands
-token-none t h = rw (ne-eqb t 1 h)
+token-none t h g = rw (ne-eqb t 1 h, ne-eqb t 7 g)
 
 pub sign-none : (t : ℕ) → 1 < t → t < 7 → operands t ≡ none
-sign-none t h l = token-none t (λ e. omega arith)
+sign-none t h l = token-none t (λ e. omega arith) (λ e. omega arith)
 
 pub operands-small : (t k : ℕ) → operands t ≡ some k → k ≤ 5
-operands-small t k e = omega (arith, token-some t k e .1)
+operands-small t k e =
+    elim (token-some t k e) [
+      | inl x ↦ omega (arith, x .1)
+      | inr x ↦ omega (arith, x .1)
+    ]
 
 -- FROM AN ATOM TO ITS BYTES
 
@@ -50,12 +58,14 @@ spelling (inRange s lo hi) = record {
   many = refl;
   back = λ q. ap₂ (inRange s) (omega arith) (omega arith);
 }
+spelling (clear i j) = record { token = 7; bytes = i ∷ j ∷ []; are = refl; many = refl; back = λ q. refl }
 
 -- FROM BYTES TO AN ATOM
 
 -- What an atom names fits its bytes.
 abbrev pub SmallAtom : Atom → Type 0
 SmallAtom (inRange s lo hi) = (s < 256) × (lo < 256 * 256) × (hi < 256 * 256)
+SmallAtom (clear i j) = (i < 256) × (j < 256)
 
 range-bytes : (q : List ℕ) → 5 ≤ length q → Bytes q → (atomBytes (atomOf 1 q) ≡ 1 ∷ take 5 q) × SmallAtom (atomOf 1 q)
 unfolding atomBytes atomOf word
@@ -76,9 +86,19 @@ range-bytes (s ∷ a ∷ b ∷ c ∷ d ∷ q) h g =
     let ed : (256 * c + d) % 256 ≡ d = omega arith in
     (rw (ea, eb, ec, ed), (hs, omega arith, omega arith))
 
+clear-bytes : (q : List ℕ) → 2 ≤ length q → Bytes q → (atomBytes (atomOf 7 q) ≡ 7 ∷ take 2 q) × SmallAtom (atomOf 7 q)
+unfolding atomBytes atomOf
+clear-bytes [] h g = absurd (omega arith)
+clear-bytes (i ∷ []) h g = absurd (omega arith)
+clear-bytes (i ∷ j ∷ q) h g = (refl, (g 0, g 1))
+
 -- Bytes that are read as an atom are its bytes.
 pub atom-bytes : (t k : ℕ) (q : List ℕ) → operands t ≡ some k → k ≤ length q → Bytes q → (atomBytes (atomOf t q) ≡ t ∷ take k q) × SmallAtom (atomOf t q)
-atom-bytes t k q e h g = let x = token-some t k e in rw (x .0, x .1) (range-bytes q (omega (arith, x .1)) g)
+atom-bytes t k q e h g =
+    elim (token-some t k e) [
+      | inl x ↦ rw (x .0, x .1) (range-bytes q (omega (arith, x .1)) g)
+      | inr x ↦ rw (x .0, x .1) (clear-bytes q (omega (arith, x .1)) g)
+    ]
 
 -- The bytes of a small atom are bytes.
 pub bytes-atom : (a : Atom) → SmallAtom a → Bytes (atomBytes a)
@@ -90,3 +110,7 @@ bytes-atom (inRange s lo hi) (h, g, k) (suc (suc (suc zero))) = omega arith
 bytes-atom (inRange s lo hi) (h, g, k) (suc (suc (suc (suc zero)))) = omega arith
 bytes-atom (inRange s lo hi) (h, g, k) (suc (suc (suc (suc (suc zero))))) = omega arith
 bytes-atom (inRange s lo hi) (h, g, k) (suc (suc (suc (suc (suc (suc i)))))) = omega arith
+bytes-atom (clear i j) (h, g) zero = omega arith
+bytes-atom (clear i j) (h, g) (suc zero) = h
+bytes-atom (clear i j) (h, g) (suc (suc zero)) = g
+bytes-atom (clear i j) (h, g) (suc (suc (suc k))) = omega arith

@@ -43,14 +43,14 @@ module _ {m : Limits} (fit : Suitable m) {log : List ℕ} {q : ℕ} {K : Computa
 
   -- Demand 3, of the answer's line.
   pub asked-answered : Answered K f (answerLine (answer K f))
-  asked-answered = answered K (posed .valid) (omega (arith, posed .few, fit .events)) f (posed .fitting)
+  asked-answered = answered K (posed .valid) (omega (arith, posed .few, fit .events)) f (posed .fitting) (posed .works)
 
   pub asked-line-fits : length (answerLine (answer K f)) ≤ lineSize
   asked-line-fits = answer-fits K (posed .valid) f (fits-to f (posed .fitting) .2) (le-trans (posed .high) (fit .stations))
 
   -- Demand 2, of the test at a cut.
   pub asked-tested : (c : Cut) → Consistent K c → Tested K f c (gives (yesNo (trueAt K f c) ∷ []))
-  asked-tested c p = told K (posed .valid) f c p
+  asked-tested c p = told K (posed .valid) f (posed .works) c p
 
   -- THE OPERATIONS
 

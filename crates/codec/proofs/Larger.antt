@@ -17,13 +17,14 @@ use Rattle.model.specs.Bytes.{linesOf, Item, frame, bad, items}
 use Rattle.model.specs.Frames.{framesOf}
 use Rattle.model.specs.Formula.{Formula}
 use Rattle.model.specs.Computation.{Computation, stations, eventCount}
-use Rattle.model.specs.Reading.{Reading, nothing, fault, check, headerForm, stationOf, eventOf, eventForm, withEvent, admitEvent, admit, Result, refused, accepted, proceed, readItems, readLog, readFrames, readList}
+use Rattle.model.specs.Reading.{Reading, nothing, fault, check, headerForm, stationOf, eventOf, eventForm, withEvent, messageOf, admitEvent, admit, Result, refused, accepted, proceed, readItems, readLog, readFrames, readList}
 use Rattle.model.specs.Operations.{readEffect, readOp, opening, forecastOp, answerOp, holdsOp, writeEffect, writeOp, printedOf, printed}
 use Rattle.model.specs.Promise.{Asked, Stays, Sized}
 use Rattle.lattice.proofs.Histories.{eventCount-extended}
 use Rattle.codec.specs.Limits.{NoLarger}
 use Rattle.codec.proofs.Cases.{cases, and-true, between-true, between-in}
-use Rattle.codec.proofs.Accepted.{Admission, a-header, a-event, a-question, admitted, admission-go, begun-true, begun-false, unasked-true, event-true, refused-accepted, proceed-accepted, finish-accepted, readItems-invariant, admitted-frames, accepted-log}
+use Rattle.codec.proofs.Accepted.{Admission, a-header, a-event, a-message, a-question, admitted, admission-go, begun-true, begun-false, unasked-true, unsent-true, event-true, refused-accepted, proceed-accepted, finish-accepted, readItems-invariant, admitted-frames, accepted-log}
+use Rattle.codec.proofs.Messages.{eventCount-informed}
 use Rattle.codec.proofs.Lawful.{Lawful, nothing-lawful, admitted-lawful}
 use Rattle.codec.proofs.Suited.{print-within}
 use Rattle.codec.proofs.Input.{printed-long}
@@ -44,8 +45,9 @@ module _ {m m′ : Limits} (up : NoLarger m m′) where
 
   admission-up : {r s : Reading} {f : List ℕ} → Admission m r f s → Admission m′ r f s
   admission-up (a-header {f = f} a b) = a-header a (header-up f b)
-  admission-up {r} (a-event a b c d e) = a-event a b (less-up (eventCount (r .computation)) (m .events) (m′ .events) (up .events) c) d e
-  admission-up {r} (a-question a b c d e) = a-question a (less-up (length (r .questions)) (m .questions) (m′ .questions) (up .questions) b) c d e
+  admission-up {r} (a-event a b s c d e) = a-event a b s (less-up (eventCount (r .computation)) (m .events) (m′ .events) (up .events) c) d e
+  admission-up {r} (a-message a b c d e) = a-message a b (less-up (length (r .computation .messages)) (m .messages) (m′ .messages) (up .messages) c) d e
+  admission-up {r} (a-question a b c d e w) = a-question a (less-up (length (r .questions)) (m .questions) (m′ .questions) (up .questions) b) c d e w
 
   items-up : (n : ℕ) (r s : Reading) (l : List Item) → readItems m n r l ≡ accepted s → readItems m′ n r l ≡ accepted s
   unfolding readItems proceed
@@ -94,7 +96,7 @@ module _ {m m′ : Limits} (up : NoLarger m m′) where
 pub as-before : (log : List ℕ) (r : Reading) → readLog printLimits log ≡ accepted r → Stays printLimits limits log r
 as-before = stays print-within
 
--- DOWNWARDS, where the number of stations and that of questions have the same limits
+-- DOWNWARDS, where the numbers of stations, messages and questions have the same limits
 
 -- An event frame brings one event more, and no frame takes one away.
 event-more : {m : Limits} {r : Reading} → Lawful m r → (f : List ℕ) → eventForm (stations (r .computation)) f ≡ true → eventCount (withEvent r f .computation) ≡ suc (eventCount (r .computation))
@@ -103,8 +105,9 @@ event-more {m} {r} law f t = eventCount-extended (r .computation) (stationOf f) 
 events-kept : {m : Limits} {r s : Reading} {f : List ℕ} → Lawful m r → Admission m r f s → eventCount (r .computation) ≤ eventCount (s .computation)
 unfolding sum
 events-kept {m} {r} law (a-header b t) = omega (arith, ap (λ (x : Reading). eventCount (x .computation)) (law .blank (begun-false r b)))
-events-kept law (a-event {f = f} b u c t o) = omega (arith, event-more law f t)
-events-kept law (a-question b c p t o) = omega arith
+events-kept law (a-event {f = f} b u v c t o) = omega (arith, event-more law f t)
+events-kept {m} {r} law (a-message {f = f} b u c t o) = omega (arith, eventCount-informed (r .computation) (messageOf f))
+events-kept law (a-question b c p t o w) = omega arith
 
 events-more : (m : Limits) (n : ℕ) (r s : Reading) (l : List Item) → Lawful m r → readItems m n r l ≡ accepted s → eventCount (r .computation) ≤ eventCount (s .computation)
 events-more m n r s l law e =
@@ -121,18 +124,19 @@ record Above (m : Limits) (r : Reading) (f : List ℕ) (s : Reading) : Type 0 wh
 abbrev Comes : Limits → Result → Reading → Type 0
 Comes m o s = ((eventCount (s .computation) ≤ m .events) × (o ≡ accepted s)) ⊎ ((m .events < eventCount (s .computation)) × (o ≡ refused 4 (m .events + 2)))
 
-module _ (m m′ : Limits) (stationed : m .stations ≡ m′ .stations) (posed : m .questions ≡ m′ .questions) where
+module _ (m m′ : Limits) (stationed : m .stations ≡ m′ .stations) (sent : m .messages ≡ m′ .messages) (posed : m .questions ≡ m′ .questions) where
   admission-down : {r s : Reading} {f : List ℕ} → Lawful m r → Admission m′ r f s → Admission m r f s ⊎ Above m r f s
   unfolding headerForm admit admitEvent check
   admission-down law (a-header {f = f} b t) = inl (a-header {f = f} b (rw stationed t))
-  admission-down law (a-question b c p t o) = inl (a-question b (rw posed c) p t o)
-  admission-down {r} law (a-event {f = f} b u c t o) = by (ltb (eventCount (r .computation)) (m .events)) refl
+  admission-down law (a-message b u c t o) = inl (a-message b u (rw sent c) t o)
+  admission-down law (a-question b c p t o w) = inl (a-question b (rw posed c) p t o w)
+  admission-down {r} law (a-event {f = f} b u v c t o) = by (ltb (eventCount (r .computation)) (m .events)) refl
     where
       by : (x : Bool) → ltb (eventCount (r .computation)) (m .events) ≡ x → Admission m r (0x20 ∷ f) (withEvent r f) ⊎ Above m r (0x20 ∷ f) (withEvent r f)
-      by true e = inl (a-event b u e t o)
+      by true e = inl (a-event b u v e t o)
       by false e =
           let full : eventCount (r .computation) ≡ m .events = omega (arith, ltb-false (eventCount (r .computation)) (m .events) e, law .few-events) in
-          inr (record { more = omega (arith, event-more law f t); stands = omega (arith, law .counted (begun-true r b), unasked-true r u); is = rw (b, u, e) })
+          inr (record { more = omega (arith, event-more law f t); stands = omega (arith, law .counted (begun-true r b), unasked-true r u, unsent-true r v); is = rw (b, u, v, e) })
 
   items-down : (n : ℕ) (r s : Reading) (l : List Item) → n ≡ suc (length (r .frames)) → Lawful m r → Lawful m′ r → readItems m′ n r l ≡ accepted s → Comes m (readItems m n r l) s
   unfolding readItems proceed
@@ -164,4 +168,4 @@ sized log r e = record {
 }
   where
     down : Comes printLimits (readItems printLimits 1 nothing (items (linesOf log))) r
-    down = items-down printLimits limits refl refl 1 nothing r (items (linesOf log)) refl (nothing-lawful printLimits) (nothing-lawful limits) (accepted-log limits log r e)
+    down = items-down printLimits limits refl refl refl 1 nothing r (items (linesOf log)) refl (nothing-lawful printLimits) (nothing-lawful limits) (accepted-log limits log r e)

@@ -12,17 +12,19 @@ use borrow.Author.Tests.{ltb-true}
 use Rattle.model.specs.declared.Limits.{Limits}
 use Rattle.model.specs.Frames.{words}
 use Rattle.model.specs.Formula.{Formula, sound}
-use Rattle.model.specs.Computation.{Event, Computation, stations, count, eventCount, value}
+use Rattle.model.specs.Computation.{Event, Message, Computation, stations, count, eventCount, value}
+use Rattle.model.specs.Rules.{asTrue, workable}
 use Rattle.model.specs.Size.{fits}
-use Rattle.model.specs.Reading.{Reading, nothing, go, opened, stationOf, eventOf, extended, admit}
+use Rattle.model.specs.Reading.{Reading, nothing, go, opened, stationOf, eventOf, extended, messageOf, informed, admit}
 use Rattle.lattice.proofs.Valid.{Valid}
 use Rattle.lattice.proofs.Histories.{value-none, value-opened, stations-opened, count-opened, eventCount-opened, stations-extended, old-or-new, value-old, value-new, eventCount-extended}
-use Rattle.lattice.proofs.Clocks.{opened-valid, extended-valid}
+use Rattle.lattice.proofs.Clocks.{opened-valid, extended-valid, informed-valid}
 use Rattle.codec.proofs.Bytes.{Bytes, bytes-drop, word-small, words-small}
 use Rattle.codec.proofs.Cases.{none-some, Each}
 use Rattle.codec.proofs.Snoc.{empty-list, getElem?-snoc, each-snoc}
 use Rattle.codec.proofs.QuestionFrames.{Framed, framed-none, framed-other, framed-question}
-use Rattle.codec.proofs.Accepted.{Admission, a-header, a-event, a-question, admitted, begun-true, begun-false, unasked-true, Header, header-true, event-true}
+use Rattle.codec.proofs.Messages.{messages-opened, messages-extended, message-more, stations-informed, eventCount-informed, value-informed}
+use Rattle.codec.proofs.Accepted.{Admission, a-header, a-event, a-message, a-question, admitted, begun-true, begun-false, unasked-true, Header, header-true, event-true}
 
 pub record Lawful (m : Limits) (r : Reading) : Type 0 where
   -- before the header nothing has been read
@@ -32,14 +34,15 @@ pub record Lawful (m : Limits) (r : Reading) : Type 0 where
   -- the limits are kept
   pub few-stations : stations (r .computation) ≤ m .stations
   pub few-events : eventCount (r .computation) ≤ m .events
+  pub few-messages : length (r .computation .messages) ≤ m .messages
   pub few-questions : length (r .questions) ≤ m .questions
-  -- the questions name stations that are there, and are not too large
-  pub good : (q : ℕ) (φ : Formula) → getElem? (r .questions) q ≡ some φ → (sound (stations (r .computation)) φ ≡ true) × (fits φ ≡ true)
+  -- the questions name stations that are there, are not too large, and can be worked out
+  pub good : (q : ℕ) (φ : Formula) → getElem? (r .questions) q ≡ some φ → (sound (stations (r .computation)) φ ≡ true) × (fits φ ≡ true) × (workable (asTrue φ) ≡ true)
   -- the values are of two bytes
   pub small : Each Bytes (r .frames) → (j k : ℕ) → value (r .computation) j k < 256 * 256
-  -- a header, a frame for each event, a frame for each question
+  -- a header, a frame for each event, for each message, for each question
   pub framed : Framed (r .frames) (r .questions)
-  pub counted : 0 < stations (r .computation) → length (r .frames) ≡ suc (eventCount (r .computation) + length (r .questions))
+  pub counted : 0 < stations (r .computation) → length (r .frames) ≡ suc (eventCount (r .computation) + length (r .computation .messages) + length (r .questions))
 
 -- VALUES
 
@@ -66,6 +69,7 @@ nothing-lawful m = record {
   valid = opened-valid [];
   few-stations = omega arith;
   few-events = omega (arith, eventCount-opened []);
+  few-messages = omega arith;
   few-questions = omega arith;
   good = λ q φ h. none-some h;
   small = λ h. opened-small [] (λ j. omega arith);
@@ -79,11 +83,12 @@ admitted-lawful {m} {r} law (a-header {f = f} first form) = record {
   valid = opened-valid values;
   few-stations = omega (arith, many, sizes);
   few-events = omega (arith, eventCount-opened values);
+  few-messages = omega (arith, ap length (messages-opened values));
   few-questions = law .few-questions;
   good = rw unasked (λ q φ h. none-some h);
   small = λ h. opened-small values (words-small (drop 1 f) (bytes-drop 2 (0x10 ∷ f) (each-snoc Bytes (r .frames) (0x10 ∷ f) h .1)));
   framed = rw unasked (framed-other (0x10 ∷ f) (omega arith) (rw unasked at (law .framed)));
-  counted = λ h. omega (arith, eventCount-opened values, length-append (r .frames) ((0x10 ∷ f) ∷ []), ap (λ (x : Reading). length (x .frames)) before, ap length unasked);
+  counted = λ h. omega (arith, eventCount-opened values, ap length (messages-opened values), length-append (r .frames) ((0x10 ∷ f) ∷ []), ap (λ (x : Reading). length (x .frames)) before, ap length unasked);
 }
   where
     sizes : Header m f
@@ -100,18 +105,19 @@ admitted-lawful {m} {r} law (a-header {f = f} first form) = record {
 
     unasked : r .questions ≡ []
     unasked = ap (λ (x : Reading). x .questions) before
-admitted-lawful {m} {r} law (a-event {f = f} begun none-asked room form ok) = record {
+admitted-lawful {m} {r} law (a-event {f = f} begun none-asked none-sent room form ok) = record {
   blank = λ h. absurd (omega (arith, same, begun-true r begun));
   valid = extended-valid K s e there (law .valid) (omega (arith, length-drop 3 f, sizes)) ok;
   few-stations = omega (arith, same, law .few-stations);
   few-events = omega (arith, longer, ltb-true (eventCount K) (m .events) room);
+  few-messages = omega (arith, law .few-messages, ap length (messages-extended K s e));
   few-questions = law .few-questions;
   good = rw same (law .good);
   small = λ h.
       let parts = each-snoc Bytes (r .frames) (0x20 ∷ f) h in
       extended-small K s e there (law .small (parts .0)) (word-small (drop 1 f) (bytes-drop 2 (0x20 ∷ f) (parts .1)));
   framed = rw unasked (framed-other (0x20 ∷ f) (omega arith) (rw unasked at (law .framed)));
-  counted = λ h. omega (arith, law .counted (begun-true r begun), longer, length-append (r .frames) ((0x20 ∷ f) ∷ []));
+  counted = λ h. omega (arith, law .counted (begun-true r begun), longer, ap length (messages-extended K s e), length-append (r .frames) ((0x20 ∷ f) ∷ []));
 }
   where
     K : Computation
@@ -137,13 +143,38 @@ admitted-lawful {m} {r} law (a-event {f = f} begun none-asked room form ok) = re
 
     unasked : r .questions ≡ []
     unasked = empty-list (r .questions) (unasked-true r none-asked)
-admitted-lawful {m} {r} law (a-question {f = f} {φ = φ} begun room is named size) = record {
+admitted-lawful {m} {r} law (a-message {f = f} begun none-asked room form ok) = record {
+  blank = λ h. absurd (omega (arith, same, begun-true r begun));
+  valid = informed-valid K x (law .valid) ok;
+  few-stations = omega (arith, same, law .few-stations);
+  few-events = omega (arith, eventCount-informed K x, law .few-events);
+  few-messages = omega (arith, message-more K x, ltb-true (length (K .messages)) (m .messages) room);
+  few-questions = law .few-questions;
+  good = rw same (law .good);
+  small = λ h j k. omega (arith, value-informed K x j k, law .small (each-snoc Bytes (r .frames) (0x25 ∷ f) h .0) j k);
+  framed = rw unasked (framed-other (0x25 ∷ f) (omega arith) (rw unasked at (law .framed)));
+  counted = λ h. omega (arith, law .counted (begun-true r begun), eventCount-informed K x, message-more K x, length-append (r .frames) ((0x25 ∷ f) ∷ []));
+}
+  where
+    K : Computation
+    K = r .computation
+
+    x : Message
+    x = messageOf f
+
+    same : stations (informed K x) ≡ stations K
+    same = stations-informed K x
+
+    unasked : r .questions ≡ []
+    unasked = empty-list (r .questions) (unasked-true r none-asked)
+admitted-lawful {m} {r} law (a-question {f = f} {φ = φ} begun room is named size works) = record {
   blank = λ h. absurd (omega (arith, begun-true r begun));
   valid = law .valid;
   few-stations = law .few-stations;
   few-events = law .few-events;
+  few-messages = law .few-messages;
   few-questions = omega (arith, ltb-true (length (r .questions)) (m .questions) room, length-append (r .questions) (φ ∷ []));
-  good = getElem?-snoc (λ ψ. (sound (stations (r .computation)) ψ ≡ true) × (fits ψ ≡ true)) (r .questions) φ (law .good) (named, size);
+  good = getElem?-snoc (λ i ψ. (sound (stations (r .computation)) ψ ≡ true) × (fits ψ ≡ true) × (workable (asTrue ψ) ≡ true)) (r .questions) φ (law .good) (named, size, works);
   small = λ h. law .small (each-snoc Bytes (r .frames) (0x30 ∷ f) h .0);
   framed = framed-question f φ is (law .framed);
   counted = λ h. omega (arith, law .counted (begun-true r begun), length-append (r .frames) ((0x30 ∷ f) ∷ []), length-append (r .questions) (φ ∷ []));

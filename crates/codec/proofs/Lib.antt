@@ -10,6 +10,7 @@ pub mod Logs
 pub mod Answers
 pub mod Accepted
 pub mod QuestionFrames
+pub mod Messages
 pub mod Lawful
 pub mod Readings
 pub mod Refusals

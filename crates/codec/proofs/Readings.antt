@@ -13,6 +13,7 @@ use Rattle.model.specs.Frames.{framesOf}
 use Rattle.model.specs.Formula.{Formula, sound}
 use Rattle.model.specs.Cut.{_!_}
 use Rattle.model.specs.Computation.{Computation, stations, eventCount, clock, value}
+use Rattle.model.specs.Rules.{asTrue, workable}
 use Rattle.model.specs.Size.{fits}
 use Rattle.model.specs.Reading.{Reading, nothing, accepted, readItems, readLog, readList}
 use Rattle.model.specs.Promise.{Asked}
@@ -76,7 +77,7 @@ module _ (m : Limits) (l : List ℕ) (r : Reading) (e : readList m l ≡ accepte
 
 module _ {m : Limits} {r : Reading} (law : Lawful m r) where
   -- A question of the list is good.
-  pub member-good : (φ : Formula) → Member φ (r .questions) → (sound (stations (r .computation)) φ ≡ true) × (fits φ ≡ true)
+  pub member-good : (φ : Formula) → Member φ (r .questions) → (sound (stations (r .computation)) φ ≡ true) × (fits φ ≡ true) × (workable (asTrue φ) ≡ true)
   member-good φ h = let place = member-at h in law .good (place .0) φ (place .1)
 
   -- No clock counts more events than there can be.
@@ -87,12 +88,12 @@ module _ {m : Limits} {r : Reading} (law : Lawful m r) where
   pub values-small : Each IsFrame (r .frames) → (j k : ℕ) → value (r .computation) j k < 256 * 256
   values-small h = law .small (all-map (λ f g. g .bytes) h)
 
--- Question number q stands behind the header and the events.
+-- Question number q stands behind the header, the events and the messages.
 pub question-stands : {m : Limits} {r : Reading} → IsAccepted m r → (q : ℕ) → q < length (r .questions)
-    → getD (r .frames) (suc (eventCount (r .computation)) + q) [] ≡ asFrame (getD (questionFrames (r .frames)) q [])
+    → getD (r .frames) (suc (eventCount (r .computation) + length (r .computation .messages)) + q) [] ≡ asFrame (getD (questionFrames (r .frames)) q [])
 question-stands {m} {r} all q h =
     let framed = all .lawful .framed in
-    let front : length (framed .front) ≡ suc (eventCount (r .computation)) = omega (arith, all .lawful .counted (all .begun), length-frames framed) in
+    let front : length (framed .front) ≡ suc (eventCount (r .computation) + length (r .computation .messages)) = omega (arith, all .lawful .counted (all .begun), length-frames framed) in
     rw (← front) (question-place framed q h)
 
 -- The computation K and a question f of an accepted log.
@@ -101,8 +102,10 @@ pub record Posed (m : Limits) (K : Computation) (f : Formula) : Type 0 where
   pub low : 1 ≤ stations K
   pub high : stations K ≤ m .stations
   pub few : eventCount K ≤ m .events
+  pub few-messages : length (K .messages) ≤ m .messages
   pub named : sound (stations K) f ≡ true
   pub fitting : fits f ≡ true
+  pub works : workable (asTrue f) ≡ true
   pub values : (j k : ℕ) → value K j k < 256 * 256
   pub entries : (j k i : ℕ) → clock K j k ! i ≤ m .events
 
@@ -115,8 +118,10 @@ asked-valid {m} {log} {q} {K} {f} a =
       low = all .begun;
       high = law .few-stations;
       few = law .few-events;
+      few-messages = law .few-messages;
       named = law .good q f (a .is) .0;
       fitting = law .good q f (a .is) .1;
+      works = law .good q f (a .is) .2;
       values = values-small law (log-are-frames m log _ (a .reads));
       entries = entries-small law;
     }

@@ -1,21 +1,25 @@
--- What is said of a refusal: its number is above 0, and its line at most one more than a log has bytes or a frame list.
+-- What is said of a refusal: its number is above 0, and its line at most one more than a log has bytes or a frame list; and what 16 means.
 use mathlib.Core.Path.{_≡_, refl, ap}
+use mathlib.Core.Logic.{_↔_}
 use mathlib.Core.Bool.{Bool, true, false, cond}
 use mathlib.Core.List.{List, [], _∷_, map}
 use mathlib.Core.Option.{Option, none, some}
 use Prim.Native.Nat.{ℕ, _+_, suc, _-_, _%_, _≤_, _<_}
 use native.Mathlib.Omega.{arith}
 use lib.ListN.{length, take, getElem?, length-append, length-map}
-use lib.Dec.{leb, eqb}
+use lib.Dec.{leb, ltb, eqb}
 use borrow.Author.Tests.{leb-true}
 use Rattle.model.specs.declared.Limits.{Limits}
 use Rattle.model.specs.Lists.{total, between}
 use Rattle.model.specs.Bytes.{Lines, more, rest, push, linesOf, Item, frame, bad, bytes, carried, items}
 use Rattle.model.specs.Frames.{listOf, framesOf}
-use Rattle.model.specs.Formula.{Formula}
-use Rattle.model.specs.Reading.{Reading, nothing, Step, go, fault, check, admitHeader, admitEvent, asked, admitQuestion, admit, Result, refused, accepted, begun, finish, proceed, readItems, readLog, readFrames, readList}
-use Rattle.model.specs.Computation.{Computation}
+use Rattle.model.specs.Formula.{Formula, formulaOf, sound}
+use Rattle.model.specs.Rules.{asTrue, workable}
+use Rattle.model.specs.Size.{fits}
+use Rattle.model.specs.Reading.{Reading, nothing, Step, go, fault, check, admitHeader, admitEvent, admitMessage, asked, admitQuestion, admit, Result, refused, accepted, begun, finish, proceed, readItems, readLog, readFrames, readList}
+use Rattle.model.specs.Computation.{Computation, stations}
 use Rattle.model.specs.Operations.{shut, posing, openingOf, opening}
+use Rattle.lattice.proofs.Tests.{clash}
 use Rattle.codec.proofs.Cases.{Each, e-none, e-more}
 use Rattle.codec.proofs.Frames.{list-frames}
 
@@ -37,7 +41,7 @@ checked k false s h p = h
 asked-numbered : (r : Reading) (f : List ℕ) (o : Option Formula) → Numbered (asked r f o)
 unfolding asked
 asked-numbered r f none = omega arith
-asked-numbered r f (some φ) = checked 8 _ _ (omega arith) (checked 9 _ _ (omega arith) tt)
+asked-numbered r f (some φ) = checked 8 _ _ (omega arith) (checked 9 _ _ (omega arith) (checked 16 _ _ (omega arith) tt))
 
 -- A LINE
 
@@ -90,12 +94,29 @@ frames-few (f ∷ fs) = omega (arith, frames-few fs, length-append f (listOf fs)
 
 module _ (m : Limits) where
   admit-numbered : (r : Reading) (f : List ℕ) → Numbered (admit m r f)
-  unfolding admit admitHeader admitEvent admitQuestion
+  unfolding admit admitHeader admitEvent admitMessage admitQuestion
   admit-numbered r [] = omega arith
   admit-numbered r (kind ∷ f) =
       either (eqb kind 0x10) _ _ (checked 4 _ _ (omega arith) (checked 5 _ _ (omega arith) tt))
       (either (eqb kind 0x20) _ _ (checked 4 _ _ (omega arith) (checked 6 _ _ (omega arith) (checked 7 _ _ (omega arith) tt)))
-      (either (eqb kind 0x30) _ _ (checked 4 _ _ (omega arith) (asked-numbered r f _)) (omega arith)))
+      (either (eqb kind 0x25) _ _ (checked 4 _ _ (omega arith) (checked 15 _ _ (omega arith) tt))
+      (either (eqb kind 0x30) _ _ (checked 4 _ _ (omega arith) (asked-numbered r f _)) (omega arith))))
+
+  -- A question that passes 4, 8 and 9 is refused with 16 exactly if an atom comes under a sign in which it cannot be worked out.
+  pub sixteen :
+      (r : Reading) (f : List ℕ) (φ : Formula)
+      → begun r ≡ true
+      → ltb (length (r .questions)) (m .questions) ≡ true
+      → formulaOf f ≡ some φ
+      → sound (stations (r .computation)) φ ≡ true
+      → fits φ ≡ true
+      → (admit m r (0x30 ∷ f) ≡ fault 16) ↔ (workable (asTrue φ) ≡ false)
+  unfolding admit admitQuestion asked check
+  sixteen r f φ h g p t u = rw (h, g, p, t, u) (by (workable (asTrue φ)) _)
+    where
+      by : (b : Bool) (s : Reading) → (check 16 b (go s) ≡ fault 16) ↔ (b ≡ false)
+      by true s = (λ e. let z : _≡_ {A = ℕ} 0 1 = cc in absurd (omega arith), λ e. clash refl e)
+      by false s = (λ e. refl, λ e. refl)
 
   -- ALL LINES
 

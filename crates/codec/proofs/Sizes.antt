@@ -1,11 +1,13 @@
--- Sizes: of what is accepted a header frame has at most 18 bytes, an event frame 12, a question frame 93, and the limits say how many there are.
+-- Sizes: of what is accepted a header frame has at most 18 bytes, an event frame 12, a message frame 5, a question frame 93, and the limits say how many there are.
 use mathlib.Core.Path.{_≡_, ap}
 use mathlib.Core.Bool.{true, false}
 use mathlib.Core.List.{List, [], _∷_, _++_, map}
 use mathlib.Core.Option.{some}
 use Prim.Native.Nat.{ℕ, _+_, _*_, _≤_, min}
 use native.Mathlib.Omega.{arith}
+use lib.Dec.{eqb}
 use lib.ListN.{length, drop, length-append}
+use borrow.Author.Tests.{eqb-true}
 use Rattle.model.specs.declared.Limits.{Limits}
 use Rattle.model.specs.Lists.{sum}
 use Rattle.model.specs.Bytes.{Item, frame, line}
@@ -13,13 +15,14 @@ use Rattle.model.specs.Frames.{words, logOf, listOf}
 use Rattle.model.specs.Formula.{Formula, formulaOf}
 use Rattle.model.specs.Computation.{stations, eventCount}
 use Rattle.model.specs.Size.{fits}
-use Rattle.model.specs.Reading.{Reading, nothing, begun, headerForm, withHeader, stationOf, eventOf, eventForm, withEvent, withQuestion, accepted, readItems}
+use Rattle.model.specs.Reading.{Reading, nothing, begun, headerForm, withHeader, stationOf, eventOf, eventForm, withEvent, messageOf, withMessage, withQuestion, accepted, readItems}
 use Rattle.lattice.proofs.Histories.{stations-opened, eventCount-opened, stations-extended, eventCount-extended}
 use Rattle.lattice.proofs.Held.{fits-to}
 use Rattle.codec.specs.Limits.{Suitable}
 use Rattle.codec.proofs.Formulas.{length-formula}
 use Rattle.codec.proofs.Lines.{length-line}
-use Rattle.codec.proofs.Accepted.{Admission, a-header, a-event, a-question, begun-true, begun-false, header-true, event-true, readItems-invariant, accepted-frames}
+use Rattle.codec.proofs.Accepted.{Admission, a-header, a-event, a-message, a-question, begun-true, begun-false, header-true, event-true, readItems-invariant, accepted-frames}
+use Rattle.codec.proofs.Messages.{messages-opened, messages-extended, message-more, stations-informed, eventCount-informed}
 use Rattle.codec.proofs.Lawful.{Lawful, nothing-lawful, admitted-lawful}
 -- Two bytes a number.
 pub use Rattle.codec.proofs.Bytes.{length-words}
@@ -43,14 +46,15 @@ pub record Short (m : Limits) (r : Reading) : Type 0 where
   pub histories : length (r .computation .events) ≡ stations (r .computation)
   pub fewStations : stations (r .computation) ≤ m .stations
   pub fewEvents : eventCount (r .computation) ≤ m .events
+  pub fewMessages : length (r .computation .messages) ≤ m .messages
   pub fewQuestions : length (r .questions) ≤ m .questions
-  pub shortList : length (listOf (r .frames)) ≤ 19 * min 1 (stations (r .computation)) + 13 * eventCount (r .computation) + 94 * length (r .questions)
-  pub shortLog : length (logOf (r .frames)) ≤ 39 * min 1 (stations (r .computation)) + 27 * eventCount (r .computation) + 189 * length (r .questions)
+  pub shortList : length (listOf (r .frames)) ≤ 19 * min 1 (stations (r .computation)) + 13 * eventCount (r .computation) + 6 * length (r .computation .messages) + 94 * length (r .questions)
+  pub shortLog : length (logOf (r .frames)) ≤ 39 * min 1 (stations (r .computation)) + 27 * eventCount (r .computation) + 13 * length (r .computation .messages) + 189 * length (r .questions)
 
 -- What is lawful keeps the limits: the two lengths are left.
 record Lengths (r : Reading) : Type 0 where
-  pub list : length (listOf (r .frames)) ≤ 19 * min 1 (stations (r .computation)) + 13 * eventCount (r .computation) + 94 * length (r .questions)
-  pub log : length (logOf (r .frames)) ≤ 39 * min 1 (stations (r .computation)) + 27 * eventCount (r .computation) + 189 * length (r .questions)
+  pub list : length (listOf (r .frames)) ≤ 19 * min 1 (stations (r .computation)) + 13 * eventCount (r .computation) + 6 * length (r .computation .messages) + 94 * length (r .questions)
+  pub log : length (logOf (r .frames)) ≤ 39 * min 1 (stations (r .computation)) + 27 * eventCount (r .computation) + 13 * length (r .computation .messages) + 189 * length (r .questions)
 
 nothing-long : Lengths nothing
 unfolding sum listOf logOf
@@ -63,7 +67,9 @@ module _ {m : Limits} (fit : Suitable m) (r : Reading) (law : Lawful m r) (h : L
       let x = header-true m f t in
       let n = stations-opened (words (drop 1 f)) in
       let c = eventCount-opened (words (drop 1 f)) in
+      let d = ap length (messages-opened (words (drop 1 f))) in
       let o = ap (λ (x : Reading). eventCount (x .computation)) (law .blank (begun-false r b)) in
+      let p = ap (λ (x : Reading). length (x .computation .messages)) (law .blank (begun-false r b)) in
       let l = length-list-more (r .frames) (0x10 ∷ f) in
       let k = length-log-more (r .frames) (0x10 ∷ f) in
       omega (arith, begun-false r b, fit .stations)
@@ -73,9 +79,20 @@ module _ {m : Limits} (fit : Suitable m) (r : Reading) (law : Lawful m r) (h : L
       let x = event-true (stations (r .computation)) f t in
       let n = stations-extended (r .computation) (stationOf f) (eventOf f) in
       let c = eventCount-extended (r .computation) (stationOf f) (eventOf f) (omega (arith, law .valid .sizes)) in
+      let d = ap length (messages-extended (r .computation) (stationOf f) (eventOf f)) in
       let l = length-list-more (r .frames) (0x20 ∷ f) in
       let k = length-log-more (r .frames) (0x20 ∷ f) in
       omega (arith, begun-true r b, law .few-stations, fit .stations)
+
+  keeps-message : eqb (length f) 4 ≡ true → Lengths (withMessage r f)
+  keeps-message t =
+      let x = eqb-true (length f) 4 t in
+      let n = stations-informed (r .computation) (messageOf f) in
+      let c = eventCount-informed (r .computation) (messageOf f) in
+      let d = message-more (r .computation) (messageOf f) in
+      let l = length-list-more (r .frames) (0x25 ∷ f) in
+      let k = length-log-more (r .frames) (0x25 ∷ f) in
+      omega arith
 
   keeps-question : (φ : Formula) → formulaOf f ≡ some φ → fits φ ≡ true → Lengths (withQuestion r f φ)
   keeps-question φ p t =
@@ -91,15 +108,16 @@ keeps {m} fit r s f (law, h) a = (admitted-lawful law a, lengths a)
   where
     lengths : {f : List ℕ} {s : Reading} → Admission m r f s → Lengths s
     lengths (a-header {f = g} b t) = keeps-header fit r law h g b t
-    lengths (a-event {f = g} b u n t c) = keeps-event fit r law h g b t
-    lengths (a-question {f = g} {φ = φ} b n p t c) = keeps-question fit r law h g φ p c
+    lengths (a-event {f = g} b u v n t c) = keeps-event fit r law h g b t
+    lengths (a-message {f = g} b u n t c) = keeps-message fit r law h g t
+    lengths (a-question {f = g} {φ = φ} b n p t c w) = keeps-question fit r law h g φ p c
 
 -- What is accepted is short.
 pub short : {m : Limits} → Suitable m → (r : Reading) (l : List Item) → readItems m 1 nothing l ≡ accepted r → Short m r
 short {m} fit r l e =
     let x = readItems-invariant m (λ r. Lawful m r × Lengths r) (keeps fit) 1 nothing r l (nothing-lawful m, nothing-long) e in
     let law = x .0 in
-    record { histories = law .valid .sizes; fewStations = law .few-stations; fewEvents = law .few-events; fewQuestions = law .few-questions; shortList = x .1 .list; shortLog = x .1 .log }
+    record { histories = law .valid .sizes; fewStations = law .few-stations; fewEvents = law .few-events; fewMessages = law .few-messages; fewQuestions = law .few-questions; shortList = x .1 .list; shortLog = x .1 .log }
 
 pub short-list : {m : Limits} → Suitable m → (r : Reading) (l : List Item) → readItems m 1 nothing l ≡ accepted r → length (listOf (r .frames)) ≤ m .list
 short-list fit r l e = omega (arith, short fit r l e, fit .list)

@@ -21,16 +21,18 @@ module _ {A : Type 0} (P : A → Type 0) where
   getD-snoc (y ∷ l) x d h p zero = h 0
   getD-snoc (y ∷ l) x d h p (suc i) = getD-snoc l x d (λ j. h (suc j)) p i
 
-  pub getElem?-snoc : (l : List A) (x : A) → ((i : ℕ) (y : A) → getElem? l i ≡ some y → P y) → P x → (i : ℕ) (y : A) → getElem? (l ++ (x ∷ [])) i ≡ some y → P y
-  getElem?-snoc [] x h p zero y e = let is : x ≡ y = cc in rw (← is) p
-  getElem?-snoc [] x h p (suc i) y e = none-some e
-  getElem?-snoc (z ∷ l) x h p zero y e = h 0 y e
-  getElem?-snoc (z ∷ l) x h p (suc i) y e = getElem?-snoc l x (λ j. h (suc j)) p i y e
-
   -- And what holds of all then held of all before, and holds of the one.
   pub each-snoc : (l : List A) (x : A) → Each P (l ++ (x ∷ [])) → Each P l × P x
   each-snoc [] x (e-more p h) = (e-none, p)
   each-snoc (y ∷ l) x (e-more p h) = let r = each-snoc l x h in (e-more p (r .0), r .1)
+
+-- What holds of each at its place holds then too, and the one more stands behind all.
+pub getElem?-snoc : {A : Type 0} (P : ℕ → A → Type 0) (l : List A) (x : A) → ((i : ℕ) (y : A) → getElem? l i ≡ some y → P i y) → P (length l) x
+    → (i : ℕ) (y : A) → getElem? (l ++ (x ∷ [])) i ≡ some y → P i y
+getElem?-snoc P [] x h p zero y e = let is : x ≡ y = cc in rw (← is) p
+getElem?-snoc P [] x h p (suc i) y e = none-some e
+getElem?-snoc P (z ∷ l) x h p zero y e = h 0 y e
+getElem?-snoc P (z ∷ l) x h p (suc i) y e = getElem?-snoc (λ j. P (suc j)) l x (λ j. h (suc j)) p i y e
 
 -- What is in a list stands somewhere in it.
 pub member-at : {A : Type 0} {a : A} {l : List A} → Member a l → (i : ℕ) × (getElem? l i ≡ some a)

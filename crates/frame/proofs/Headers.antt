@@ -18,9 +18,11 @@ use Rattle.model.specs.Computation.{stations, clock, value}
 use Rattle.model.specs.Reading.{Reading, headerForm, opened, withHeader, check, admit, admitHeader, go, fault}
 use Rattle.lattice.proofs.Histories.{length-opened, count-opened, eventCount-opened}
 use Rattle.codec.specs.Limits.{NoLarger}
+use Rattle.codec.proofs.Messages.{messages-opened}
 use Rattle.table.specs.Table.{slot, Stored}
 use Rattle.table.specs.Opening.{opening, Open}
 use Rattle.table.proofs.Slots.{value-at, clock-at}
+use Rattle.table.proofs.Messages.{none-posted}
 use Rattle.frame.specs.declared.State.{State}
 use Rattle.frame.specs.declared.Step.the-variants.{Next}
 use Rattle.frame.specs.State.{afterHeader, Bounded, Goes, Admits}
@@ -171,15 +173,17 @@ module _ {m : Limits} (up : NoLarger m limits) {s : State} {f t t′ : List ℕ}
     frames = ap (λ (x : List ℕ). r .frames ++ (x ∷ [])) (kind-front f 0x10 (g .some-bytes) (g .kind));
     holds = rw (drop-drop 1 1 f) (record {
       stored = stored-first (le-trans (d .few) (up .stations)) (d .long some) o;
+      posted = none-posted t′ (messages-opened (words (drop 2 f)));
       sizes = length-opened (words (drop 2 f));
       events = sym (eventCount-opened (words (drop 2 f)));
+      messages = sym (ap length (messages-opened (words (drop 2 f))));
       questions = g .holds .questions;
     });
   }
 
   pub header-next : 1 ≤ length f → getD f 0 0 ≡ 0x10 → s .stations ≡ 0 → Admits m s f t (record { step = Next; state = afterHeader s n }) t′
   header-next l k e = record {
-    bounded = record { few-stations = d .few; few-events = omega arith; few-questions = b .few-questions; eight = refl; each = λ j. rw (zero-at j) (omega arith) };
+    bounded = record { few-stations = d .few; few-events = omega arith; few-messages = omega arith; few-questions = b .few-questions; eight = refl; each = λ j. rw (zero-at j) (omega arith) };
     stepped = λ r h. goes (record { holds = h; some-bytes = l; kind = k }) e;
     unmoved = tt;
   }

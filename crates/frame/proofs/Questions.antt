@@ -8,6 +8,7 @@ use native.Mathlib.Omega.{arith}
 use lib.ListN.{length, getD, drop, length-append}
 use Rattle.model.specs.declared.Limits.{Limits}
 use Rattle.model.specs.Formula.{Formula, formulaOf, sound}
+use Rattle.model.specs.Rules.{asTrue, workable}
 use Rattle.model.specs.Size.{fits}
 use Rattle.model.specs.Computation.{stations}
 use Rattle.model.specs.Reading.{Reading, withQuestion, check, asked, admit, admitQuestion, go, fault}
@@ -27,20 +28,22 @@ module _ (r : Reading) (q : List ℕ) where
   asked-wrong : (o : Option Formula) (k : ℕ) → faultOf (judged (stations (r .computation)) o) ≡ some k → asked r q o ≡ fault k
   unfolding asked judged check
   asked-wrong none k e = ap fault (cc)
-  asked-wrong (some φ) k e = case (sound (stations (r .computation)) φ) refl (fits φ) refl where
-    case : (a : Bool) → sound (stations (r .computation)) φ ≡ a → (b : Bool) → fits φ ≡ b → asked r q (some φ) ≡ fault k
-    case true x true y = let z : _≡_ {A = Option ℕ} none (some k) = sym (rw (x, y)) ∙ e in let w : _≡_ {A = ℕ} 0 1 = cc in absurd (omega arith)
-    case true x false y = let z : _≡_ {A = Option ℕ} (some 9) (some k) = sym (rw (x, y)) ∙ e in rw (x, y) (ap fault (cc))
-    case false x b y = let z : _≡_ {A = Option ℕ} (some 8) (some k) = sym (rw x) ∙ e in rw x (ap fault (cc))
+  asked-wrong (some φ) k e = case (sound (stations (r .computation)) φ) refl (fits φ) refl (workable (asTrue φ)) refl where
+    case : (a : Bool) → sound (stations (r .computation)) φ ≡ a → (b : Bool) → fits φ ≡ b → (c : Bool) → workable (asTrue φ) ≡ c → asked r q (some φ) ≡ fault k
+    case true x true y true z = let u : _≡_ {A = Option ℕ} none (some k) = sym (rw (x, y, z)) ∙ e in let w : _≡_ {A = ℕ} 0 1 = cc in absurd (omega arith)
+    case true x true y false z = let u : _≡_ {A = Option ℕ} (some 16) (some k) = sym (rw (x, y, z)) ∙ e in rw (x, y, z) (ap fault (cc))
+    case true x false y c z = let u : _≡_ {A = Option ℕ} (some 9) (some k) = sym (rw (x, y)) ∙ e in rw (x, y) (ap fault (cc))
+    case false x b y c z = let u : _≡_ {A = Option ℕ} (some 8) (some k) = sym (rw x) ∙ e in rw x (ap fault (cc))
 
   asked-right : (o : Option Formula) → faultOf (judged (stations (r .computation)) o) ≡ none → Asks r q o
   unfolding asked judged check
   asked-right none e = let w : _≡_ {A = ℕ} 0 1 = cc in absurd (omega arith)
-  asked-right (some φ) e = record { formula = φ; step = case (sound (stations (r .computation)) φ) refl (fits φ) refl } where
-    case : (a : Bool) → sound (stations (r .computation)) φ ≡ a → (b : Bool) → fits φ ≡ b → asked r q (some φ) ≡ go (withQuestion r q φ)
-    case true x true y = rw (x, y)
-    case true x false y = let z : _≡_ {A = Option ℕ} (some 9) none = sym (rw (x, y)) ∙ e in let w : _≡_ {A = ℕ} 0 1 = cc in absurd (omega arith)
-    case false x b y = let z : _≡_ {A = Option ℕ} (some 8) none = sym (rw x) ∙ e in let w : _≡_ {A = ℕ} 0 1 = cc in absurd (omega arith)
+  asked-right (some φ) e = record { formula = φ; step = case (sound (stations (r .computation)) φ) refl (fits φ) refl (workable (asTrue φ)) refl } where
+    case : (a : Bool) → sound (stations (r .computation)) φ ≡ a → (b : Bool) → fits φ ≡ b → (c : Bool) → workable (asTrue φ) ≡ c → asked r q (some φ) ≡ go (withQuestion r q φ)
+    case true x true y true z = rw (x, y, z)
+    case true x true y false z = let u : _≡_ {A = Option ℕ} (some 16) none = sym (rw (x, y, z)) ∙ e in let w : _≡_ {A = ℕ} 0 1 = cc in absurd (omega arith)
+    case true x false y c z = let u : _≡_ {A = Option ℕ} (some 9) none = sym (rw (x, y)) ∙ e in let w : _≡_ {A = ℕ} 0 1 = cc in absurd (omega arith)
+    case false x b y c z = let u : _≡_ {A = Option ℕ} (some 8) none = sym (rw x) ∙ e in let w : _≡_ {A = ℕ} 0 1 = cc in absurd (omega arith)
 
 -- FAULTS
 
@@ -76,8 +79,10 @@ module _ (m : Limits) {r : Reading} {s : State} {f t : List ℕ} (g : Frame 0x30
         frames = ap (λ (x : List ℕ). r .frames ++ (x ∷ [])) (kind-front f 0x30 (g .some-bytes) (g .kind));
         holds = record {
           stored = g .holds .stored;
+          posted = g .holds .posted;
           sizes = g .holds .sizes;
           events = g .holds .events;
+          messages = g .holds .messages;
           questions = omega (arith, g .holds .questions, length-append (r .questions) (k .formula ∷ []));
         };
       }
@@ -85,7 +90,7 @@ module _ (m : Limits) {r : Reading} {s : State} {f t : List ℕ} (g : Frame 0x30
 pub question-next : {m : Limits} {s : State} {f : List ℕ} (t : List ℕ) → Bounded m s → 1 ≤ length f → getD f 0 0 ≡ 0x30 → 0 < s .stations → s .questions < m .questions → none ≡ faultOf (judged (s .stations) (formulaOf (drop 1 f)))
     → Admits m s f t (record { step = Next; state = afterQuestion s }) t
 question-next {m} t b l k n o e = record {
-  bounded = record { few-stations = b .few-stations; few-events = b .few-events; few-questions = omega arith; eight = b .eight; each = b .each };
+  bounded = record { few-stations = b .few-stations; few-events = b .few-events; few-messages = b .few-messages; few-questions = omega arith; eight = b .eight; each = b .each };
   stepped = λ r h. goes m (record { holds = h; some-bytes = l; kind = k }) n o e;
   unmoved = tt;
 }

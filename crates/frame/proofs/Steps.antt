@@ -10,7 +10,7 @@ use borrow.Author.Tests.{eq-eqb, ne-eqb, lt-ltb, le-ltb}
 use lib.ListN.{length, getD, drop}
 use Rattle.model.specs.declared.Limits.{Limits}
 use Rattle.model.specs.Computation.{stations, eventCount}
-use Rattle.model.specs.Reading.{Reading, begun, unasked, admit, admitHeader, admitEvent, admitQuestion, fault}
+use Rattle.model.specs.Reading.{Reading, begun, unasked, unsent, admit, admitHeader, admitEvent, admitMessage, admitQuestion, fault}
 use Rattle.model.specs.Reply.{number}
 use Rattle.model.specs.declared.Fault.{Fault}
 use Rattle.codec.specs.Limits.{NoLarger}
@@ -30,15 +30,20 @@ module _ (m : Limits) (r : Reading) where
   kind-event [] l e = absurd (omega arith)
   kind-event (k ∷ f) l e = rw (ne-eqb k 0x10 (omega arith), eq-eqb k 0x20 e)
 
+  pub kind-message : (f : List ℕ) → 1 ≤ length f → getD f 0 0 ≡ 0x25 → admit m r f ≡ admitMessage m r (drop 1 f)
+  unfolding admit
+  kind-message [] l e = absurd (omega arith)
+  kind-message (k ∷ f) l e = rw (ne-eqb k 0x10 (omega arith), ne-eqb k 0x20 (omega arith), eq-eqb k 0x25 e)
+
   pub kind-question : (f : List ℕ) → 1 ≤ length f → getD f 0 0 ≡ 0x30 → admit m r f ≡ admitQuestion m r (drop 1 f)
   unfolding admit
   kind-question [] l e = absurd (omega arith)
-  kind-question (k ∷ f) l e = rw (ne-eqb k 0x10 (omega arith), ne-eqb k 0x20 (omega arith), eq-eqb k 0x30 e)
+  kind-question (k ∷ f) l e = rw (ne-eqb k 0x10 (omega arith), ne-eqb k 0x20 (omega arith), ne-eqb k 0x25 (omega arith), eq-eqb k 0x30 e)
 
-  pub kind-unknown : (f : List ℕ) → (getD f 0 0 ≡ 0x10 → ⊥) → (getD f 0 0 ≡ 0x20 → ⊥) → (getD f 0 0 ≡ 0x30 → ⊥) → admit m r f ≡ fault 4
+  pub kind-unknown : (f : List ℕ) → (getD f 0 0 ≡ 0x10 → ⊥) → (getD f 0 0 ≡ 0x20 → ⊥) → (getD f 0 0 ≡ 0x25 → ⊥) → (getD f 0 0 ≡ 0x30 → ⊥) → admit m r f ≡ fault 4
   unfolding admit
-  kind-unknown [] a b c = refl
-  kind-unknown (k ∷ f) a b c = rw (ne-eqb k 0x10 a, ne-eqb k 0x20 b, ne-eqb k 0x30 c)
+  kind-unknown [] a b d c = refl
+  kind-unknown (k ∷ f) a b d c = rw (ne-eqb k 0x10 a, ne-eqb k 0x20 b, ne-eqb k 0x25 d, ne-eqb k 0x30 c)
 
 -- a frame is its kind and what follows
 pub kind-front : (f : List ℕ) (k : ℕ) → 1 ≤ length f → getD f 0 0 ≡ k → k ∷ drop 1 f ≡ f
@@ -73,6 +78,14 @@ module _ {r : Reading} {s : State} {t : List ℕ} (h : Represents r s t) where
   unfolding unasked
   unasked-yes e = eq-eqb (length (r .questions)) 0 (sym (h .questions) ∙ e)
 
+  pub unsent-not : (s .messages ≡ 0 → ⊥) → unsent r ≡ false
+  unfolding unsent
+  unsent-not e = ne-eqb (length (r .computation .messages)) 0 (λ z. e (h .messages ∙ z))
+
+  pub unsent-yes : s .messages ≡ 0 → unsent r ≡ true
+  unfolding unsent
+  unsent-yes e = eq-eqb (length (r .computation .messages)) 0 (sym (h .messages) ∙ e)
+
   module _ (m : Limits) where
     pub events-full : m .events ≤ s .events → ltb (eventCount (r .computation)) (m .events) ≡ false
     events-full e = le-ltb (eventCount (r .computation)) (m .events) (omega (arith, h .events))
@@ -91,6 +104,7 @@ pub bounded-up : {m m′ : Limits} {s : State} → NoLarger m m′ → Bounded m
 bounded-up up b = record {
   few-stations = le-trans (b .few-stations) (up .stations);
   few-events = le-trans (b .few-events) (up .events);
+  few-messages = le-trans (b .few-messages) (up .messages);
   few-questions = le-trans (b .few-questions) (up .questions);
   eight = b .eight;
   each = b .each;

@@ -10,7 +10,7 @@ use Rattle.model.specs.Computation.{stations, eventCount}
 use Rattle.model.specs.Reading.{Reading, admit, go, fault}
 use Rattle.model.specs.Reply.{number}
 use Rattle.model.specs.declared.Fault.{Fault}
-use Rattle.table.specs.Table.{Stored}
+use Rattle.table.specs.Table.{Stored, Posted}
 use Rattle.frame.specs.declared.State.{State}
 use Rattle.frame.specs.declared.Step.{Step}
 use Rattle.frame.specs.declared.Step.the-variants.{Next, Faulty}
@@ -18,21 +18,24 @@ use Rattle.frame.specs.declared.Admitted.{Admitted}
 
 -- Nothing has been read.
 abbrev pub fresh : State
-fresh = record { stations = 0; events = 0; questions = 0; counts = empty (limits .stations) }
+fresh = record { stations = 0; events = 0; messages = 0; questions = 0; counts = empty (limits .stations) }
 
--- The state after a header of n stations, after an event of station j, after a question.
+-- The state after a header of n stations, after an event of station j, after a message, after a question.
 abbrev pub afterHeader : State → ℕ → State
-afterHeader s n = record { stations = n; events = 0; questions = s .questions; counts = empty (limits .stations) }
+afterHeader s n = record { stations = n; events = 0; messages = 0; questions = s .questions; counts = empty (limits .stations) }
 
 abbrev pub afterEvent : State → ℕ → State
-afterEvent s j = record { stations = s .stations; events = s .events + 1; questions = s .questions; counts = set (s .counts) j (getD (s .counts) j 0 + 1) }
+afterEvent s j = record { stations = s .stations; events = s .events + 1; messages = s .messages; questions = s .questions; counts = set (s .counts) j (getD (s .counts) j 0 + 1) }
+
+abbrev pub afterMessage : State → State
+afterMessage s = record { stations = s .stations; events = s .events; messages = s .messages + 1; questions = s .questions; counts = s .counts }
 
 abbrev pub afterQuestion : State → State
-afterQuestion s = record { stations = s .stations; events = s .events; questions = s .questions + 1; counts = s .counts }
+afterQuestion s = record { stations = s .stations; events = s .events; messages = s .messages; questions = s .questions + 1; counts = s .counts }
 
--- Where the first question stands among the frames: behind the header and the events.
+-- Where the first question stands among the frames: behind the header, the events and the messages.
 abbrev pub firstQuestion : State → ℕ
-firstQuestion s = s .events + 1
+firstQuestion s = s .events + s .messages + 1
 
 -- A fault after the state s.
 abbrev pub faultyAt : State → Fault → Admitted
@@ -42,6 +45,7 @@ faultyAt s x = record { step = Faulty x; state = s }
 pub record Bounded (m : Limits) (s : State) : Type 0 where
   pub few-stations : s .stations ≤ m .stations
   pub few-events : s .events ≤ m .events
+  pub few-messages : s .messages ≤ m .messages
   pub few-questions : s .questions ≤ m .questions
   pub eight : length (s .counts) ≡ limits .stations
   pub each : (j : ℕ) → getD (s .counts) j 0 ≤ s .events
@@ -49,8 +53,10 @@ pub record Bounded (m : Limits) (s : State) : Type 0 where
 -- The state and the store t represent what has been read.
 pub record Represents (r : Reading) (s : State) (t : List ℕ) : Type 0 where
   pub stored : Stored (r .computation) (s .stations) (s .counts) t
+  pub posted : Posted (r .computation) t
   pub sizes : length (r .computation .events) ≡ stations (r .computation)
   pub events : s .events ≡ eventCount (r .computation)
+  pub messages : s .messages ≡ length (r .computation .messages)
   pub questions : s .questions ≡ length (r .questions)
 
 -- The frame f is admitted after r, and s and t represent what has then been read.

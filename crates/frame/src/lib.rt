@@ -5,12 +5,13 @@ pub mod question;
 ghost use mathlib.Core.Path.{_≡_};
 ghost use Prim.Native.Nat.{_≤_, _<_};
 ghost use Rattle.model.specs.Limits.{limits};
-ghost use Rattle.frame.specs.State.{fresh, afterHeader, afterEvent, afterQuestion, firstQuestion, faultyAt, Bounded};
+ghost use Rattle.frame.specs.State.{fresh, afterHeader, afterEvent, afterMessage, afterQuestion, firstQuestion, faultyAt, Bounded};
 
 // What has been read, in numbers: counts has the events of each station.
 pub struct State {
     pub stations: usize,
     pub events: usize,
+    pub messages: usize,
     pub questions: usize,
     pub counts: [u8; 8],
 }
@@ -23,6 +24,7 @@ impl State {
         State {
             stations: 0,
             events: 0,
+            messages: 0,
             questions: 0,
             counts: [0u8; model::Log::STATIONS],
         }
@@ -35,6 +37,7 @@ impl State {
         State {
             stations: n,
             events: 0,
+            messages: 0,
             questions: self.questions,
             counts: [0u8; model::Log::STATIONS],
         }
@@ -51,6 +54,22 @@ impl State {
         State {
             stations: self.stations,
             events: self.events + 1,
+            messages: self.messages,
+            questions: self.questions,
+            counts: counts,
+        }
+    }
+
+    // One more message has been read.
+    pub fn with_message(self) -> State
+        requires { ⌜ self .messages < limits .messages ⌝ }
+        ensures { λ r. ⌜ r ≡ afterMessage self ⌝ }
+    {
+        let counts = self.counts;
+        State {
+            stations: self.stations,
+            events: self.events,
+            messages: self.messages + 1,
             questions: self.questions,
             counts: counts,
         }
@@ -65,6 +84,7 @@ impl State {
         State {
             stations: self.stations,
             events: self.events,
+            messages: self.messages,
             questions: self.questions + 1,
             counts: counts,
         }
@@ -72,10 +92,10 @@ impl State {
 
     // Where the first question stands among the frames.
     pub fn first_question(self) -> usize
-        requires { ⌜ self .events ≤ limits .events ⌝ }
+        requires { ⌜ (self .events ≤ limits .events) × (self .messages ≤ limits .messages) ⌝ }
         ensures { λ r. ⌜ r ≡ firstQuestion self ⌝ }
     {
-        self.events + 1
+        self.events + self.messages + 1
     }
 }
 

@@ -30,6 +30,7 @@ fn rule(m: model::Limits, s: State, frame: &[u8], verdict: query::Verdict) -> Ad
         }
         query::Verdict::Malformed => Admitted::faulty(s, model::Fault::Formula),
         query::Verdict::TooLarge => Admitted::faulty(s, model::Fault::Size),
+        query::Verdict::Unworkable => Admitted::faulty(s, model::Fault::Unworkable),
     }
 }
 

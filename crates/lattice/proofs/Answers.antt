@@ -8,7 +8,7 @@ use mathlib.Core.List.{[], _∷_}
 use Rattle.model.specs.Formula.{Formula}
 use Rattle.model.specs.Cut.{Cut, empty}
 use Rattle.model.specs.Computation.{Computation, Consistent, stations, eventCount}
-use Rattle.model.specs.Rules.{asTrue}
+use Rattle.model.specs.Rules.{asTrue, workable}
 use Rattle.model.specs.Size.{narrow, fits}
 use Rattle.model.specs.Forecast.{forecast}
 use Rattle.model.specs.Rounds.{rounds}
@@ -33,16 +33,16 @@ said-no true = (λ h. let z : _≡_ {A = ℕ} 0 1 = cc in absurd (omega arith), 
 said-no false = (λ h. refl, λ h. refl)
 
 -- Demand 2.
-pub told : (K : Computation) → Valid K → (f : Formula) (c : Cut) → Consistent K c → Tested K f c (gives (yesNo (trueAt K f c) ∷ []))
-told K ok f c p = record {
-  when-true = (λ h. tested K ok f c p .0 (said-yes (trueAt K f c) .0 h), λ t. said-yes (trueAt K f c) .1 (tested K ok f c p .1 t));
-  when-false = (λ h. untested K ok f c p .0 (said-no (trueAt K f c) .0 h), λ n. said-no (trueAt K f c) .1 (untested K ok f c p .1 n));
+pub told : (K : Computation) → Valid K → (f : Formula) → workable (asTrue f) ≡ true → (c : Cut) → Consistent K c → Tested K f c (gives (yesNo (trueAt K f c) ∷ []))
+told K ok f w c p = record {
+  when-true = (λ h. tested K ok f w c p .0 (said-yes (trueAt K f c) .0 h), λ t. said-yes (trueAt K f c) .1 (tested K ok f w c p .1 t));
+  when-false = (λ h. untested K ok f w c p .0 (said-no (trueAt K f c) .0 h), λ n. said-no (trueAt K f c) .1 (untested K ok f w c p .1 n));
 }
 
 -- Demand 3.
-pub answered : (K : Computation) → Valid K → eventCount K < 256 → (f : Formula) → fits f ≡ true → Answered K f (answerLine (answer K f))
+pub answered : (K : Computation) → Valid K → eventCount K < 256 → (f : Formula) → fits f ≡ true → workable (asTrue f) ≡ true → Answered K f (answerLine (answer K f))
 unfolding answer forecast
-answered K ok e f h = record {
+answered K ok e f h w = record {
   start = trueAt K f (empty (stations K));
   cuts = maximal K f;
   rounds = rounds K (asTrue f);
@@ -51,11 +51,11 @@ answered K ok e f h = record {
   sized = listed-size K ok f;
   small = λ c m j. omega (arith, listed-count K ok f c m j);
   short = rounds-fit K f slender (fits-signs f h) e;
-  listed = listed-iff K ok f;
-  ordered = listed-ascending K ok f;
-  covered = true-below K ok f;
-  never = never-iff K ok f;
-  first = tested K ok f (empty (stations K)) (empty-consistent K ok);
+  listed = listed-iff K ok f w;
+  ordered = listed-ascending K f;
+  covered = true-below K ok f w;
+  never = never-iff K ok f w;
+  first = tested K ok f w (empty (stations K)) (empty-consistent K ok);
   counted = refl;
   by-rule = all-by-rule K ok (asTrue f);
   bounded = rounds-bound K f slender;

@@ -7,14 +7,15 @@ use mathlib.Core.Option.{Option}
 use mathlib.Core.List.{[]}
 use Rattle.model.specs.Cut.{Cut, _⊑_, insideAny}
 use Rattle.model.specs.Computation.{Computation, Consistent, value}
-use Rattle.model.specs.Atom.{Atom, within, isTrue, raiseTo, passes, raiseAtom}
-use Rattle.model.specs.Atom.Atom.{inRange}
+use Rattle.model.specs.Atom.{Atom, within, isTrue, askable, raiseTo, passes, raiseAtom}
+use Rattle.model.specs.Atom.Atom.{inRange, clear}
 use Rattle.model.specs.Structure.{build}
 use Rattle.lattice.proofs.Valid.{Valid}
-use Rattle.lattice.proofs.Tests.{not-true}
+use Rattle.lattice.proofs.Tests.{clash, not-true}
 use Rattle.lattice.proofs.Structures.{Least, Regular}
 use Rattle.lattice.proofs.Bases.{IsBasis, basis-iff, build-basis}
 use Rattle.lattice.proofs.Sets.{Passes, passes-regular, passes-least}
+use Rattle.lattice.proofs.Messages.{Clear, clear-iff, clear-regular, clear-least}
 
 passes-iff : (b : Bool) (lo hi v : ℕ) → (passes b lo hi v ≡ true) ↔ (within lo hi v ≡ b)
 unfolding passes
@@ -32,7 +33,12 @@ module _ (K : Computation) (ok : Valid K) where
   counted-basis : (s : ℕ) (p : ℕ → Bool) (X : Cut → Type 0) → ((c : Cut) → Consistent K c → Passes K ok s p c ↔ X c) → IsBasis K (build K (raiseTo K s p) []) X
   counted-basis s p X = plain-basis (Passes K ok s p) X (passes-regular K ok s p) (raiseTo K s p) (passes-least K ok s p)
 
-  pub literal-basis : (b : Bool) (a : Atom) → IsBasis K (build K (raiseAtom K b a) []) (λ c. isTrue K a c ≡ b)
-  unfolding raiseAtom isTrue
+  -- An atom that cannot be worked out under its sign is given no cuts.
+  pub literal-basis : (b : Bool) (a : Atom) → IsBasis K (build K (raiseAtom K b a) []) (λ c. (askable b a ≡ true) × (isTrue K a c ≡ b))
+  unfolding raiseAtom isTrue askable
   literal-basis b (inRange s lo hi) =
-      counted-basis s (λ k. passes b lo hi (value K s k)) _ (λ c q. (λ u. passes-iff b lo hi _ .0 (u .1), λ u. (q, passes-iff b lo hi _ .1 u)))
+      counted-basis s (λ k. passes b lo hi (value K s k)) _ (λ c q. (λ u. (refl, passes-iff b lo hi _ .0 (u .1)), λ u. (q, passes-iff b lo hi _ .1 (u .1))))
+  literal-basis true (clear i j) =
+      plain-basis (Clear K ok i j (K .messages)) _ (clear-regular K ok i j (K .messages)) _ (clear-least K ok i j) (λ c q. (λ u. (refl, clear-iff K ok i j c .1 (u .1)), λ u. (q, clear-iff K ok i j c .0 (u .1))))
+  literal-basis false (clear i j) =
+      plain-basis (λ c. Consistent K c × ⊥) _ (record { consistent = λ c u. u .0; join-in = λ c d u v. absurd (u .1) }) _ (λ c q e u v. u .1) (λ c q. (λ u. absurd (u .1), λ u. clash (u .0) refl))

@@ -1,7 +1,7 @@
--- One more event whose clock passes the test keeps a computation valid.
+-- One more event whose clock passes the test keeps a computation valid, and so does one more message.
 use mathlib.Core.Path.{_≡_, refl, sym, _∙_}
 use mathlib.Core.Logic.{_≢_, inl, inr}
-use Prim.Native.Nat.{ℕ, suc, _-_, _≤_, _<_}
+use Prim.Native.Nat.{ℕ, zero, suc, _-_, _≤_, _<_}
 use native.Mathlib.Decide.{ℕ-discrete, decLe, decLt}
 use native.Mathlib.Omega.{arith}
 use mathlib.Core.Bool.{true}
@@ -11,10 +11,13 @@ use lib.Dec.{eqb}
 use borrow.Author.Tests.{eqb-true, eq-eqb, ne-eqb}
 use Rattle.model.specs.Lists.{every}
 use Rattle.model.specs.Cut.{Cut, _!_, _⊑_}
-use Rattle.model.specs.Computation.{Event, Computation, stations, count, clock, known, counted, clockOk}
-use Rattle.model.specs.Reading.{opened, extended}
-use Rattle.lattice.proofs.Valid.{GoodClock, Valid}
+use Rattle.model.specs.Computation.{Event, Message, Computation, stations, count, clock, known, counted, clockOk, messageOk}
+use Rattle.model.specs.Reading.{opened, extended, informed}
+use Rattle.lattice.proofs.Valid.{GoodClock, GoodMessage, Valid}
+use Rattle.lattice.proofs.Lists.{All, all-map, all-append}
+use Rattle.lattice.proofs.Lists.All.{done, also}
 use Rattle.lattice.proofs.Tests.{and-true, every-to}
+use Rattle.lattice.proofs.MessageRule.{messageOk-iff}
 use Rattle.lattice.proofs.Consistency.{clock-zero, known-iff, clock-consistent}
 use Rattle.lattice.proofs.Histories.{stations-opened, length-opened, count-opened, stations-extended, length-extended, count-same, count-grows, old-or-new, clock-none, clock-old, clock-new}
 
@@ -51,9 +54,13 @@ module _ (K : Computation) (s : ℕ) (v : Cut) (sized : length v ≡ stations K)
             rw past (omega arith, clock-zero K j v)
       ]
 
--- A header brings no clocks.
+-- A header brings no clocks and no messages.
 pub opened-valid : (values : List ℕ) → Valid (opened values)
-opened-valid values = record { sizes = length-opened values ∙ sym (stations-opened values); clocks = λ j k h. absurd (omega (arith, count-opened values j)) }
+unfolding opened
+opened-valid values = record { sizes = length-opened values ∙ sym (stations-opened values); clocks = λ j k h. absurd (omega (arith, count-opened values j)); messages = none }
+  where
+    none : All (GoodMessage (opened values)) (opened values .messages)
+    none = done
 
 -- One more event: the old clocks stay good, since counts only grow, and the new one is good, since it passed the test.
 module _ (K : Computation) (s : ℕ) (e : Event) (there : s < length (K .events)) (valid : Valid K) where
@@ -67,6 +74,10 @@ module _ (K : Computation) (s : ℕ) (e : Event) (there : s < length (K .events)
         before = rw (clock-old K s e there j k (omega arith)) (good .before);
         others = λ i d. rw (clock-old K s e there i (clock K j (suc k) ! i) (good .within i)) (good .others i d);
       })
+
+  kept : All (GoodMessage (extended K s e)) (extended K s e .messages)
+  unfolding extended
+  kept = all-map (λ m g. record { received = omega (arith, g .received, count-grows K s e there (m .receiver)); apart = g .apart }) (valid .messages)
 
   module _ (sized : length (e .clock) ≡ stations K) (ok : clockOk K s (e .clock) ≡ true) where
     new-within : (i : ℕ) → e .clock ! i ≤ count (extended K s e) i
@@ -88,7 +99,7 @@ module _ (K : Computation) (s : ℕ) (e : Event) (there : s < length (K .events)
     }
 
     pub extended-valid : Valid (extended K s e)
-    extended-valid = record { sizes = length-extended K s e ∙ valid .sizes ∙ sym (stations-extended K s e); clocks = good }
+    extended-valid = record { sizes = length-extended K s e ∙ valid .sizes ∙ sym (stations-extended K s e); clocks = good; messages = kept }
       where
         good : (j k : ℕ) → k < count (extended K s e) j → GoodClock (extended K s e) j k (clock (extended K s e) j (suc k))
         good j k h =
@@ -106,3 +117,27 @@ entry-≤ K valid j k i =
       | yes l ↦ clock-consistent K valid j k l .within i
       | no l ↦ rw (clock-none K j k (omega arith)) (omega arith)
     ]
+
+-- A message changes no clock.
+pub clock-informed : (K : Computation) (m : Message) (j k : ℕ) → clock (informed K m) j k ≡ clock K j k
+unfolding informed clock
+clock-informed K m j zero = refl
+clock-informed K m j (suc k) = refl
+
+-- One more message that passes the test.
+pub informed-valid : (K : Computation) (m : Message) → Valid K → messageOk K m ≡ true → Valid (informed K m)
+unfolding informed
+informed-valid K m valid h = record { sizes = valid .sizes; clocks = clocks; messages = all-map (λ x g. record { received = g .received; apart = g .apart }) (all-append (valid .messages) (also good done)) }
+  where
+    clocks : (j k : ℕ) → k < count K j → GoodClock (informed K m) j k (clock (informed K m) j (suc k))
+    clocks j k l = let g = valid .clocks j k l in
+        rw (clock-informed K m j (suc k)) (record {
+          size = g .size;
+          own = g .own;
+          within = g .within;
+          before = rw (clock-informed K m j k) (g .before);
+          others = λ i d. rw (clock-informed K m i (clock K j (suc k) ! i)) (g .others i d);
+        })
+
+    good : GoodMessage K m
+    good = let s = messageOk-iff K m .0 h in record { received = s .received-there; apart = s .apart }

@@ -1,10 +1,11 @@
-pub mod Valid
 pub mod Tests
 pub mod Lists
+pub mod Valid
 pub mod Sums
 pub mod Cuts
 pub mod Consistency
 pub mod Histories
+pub mod MessageRule
 pub mod Clocks
 pub mod Belonging
 pub mod Structures
@@ -17,6 +18,8 @@ pub mod Joins
 pub mod Starts
 pub mod Steps
 pub mod Ranges
+pub mod Messages
+pub mod Due
 pub mod Atoms
 pub mod Theorem
 pub mod Tops

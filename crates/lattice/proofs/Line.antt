@@ -20,7 +20,7 @@ use Rattle.model.specs.Basis.{basis}
 use Rattle.model.specs.Answer.{notInside, add, tops, precedes, insert, sort, answer, yesNo, inRow, fourBytes, answerLine}
 use Rattle.lattice.proofs.Valid.{Valid}
 use Rattle.lattice.proofs.Consistency.{count-le}
-use Rattle.lattice.proofs.Maximal.{greatests, listed-true}
+use Rattle.lattice.proofs.Maximal.{greatests, listed-belongs}
 use Rattle.lattice.proofs.Size.{basis-width, narrow-to}
 
 -- HOW MANY CUTS
@@ -72,7 +72,7 @@ module _ (K : Computation) (ok : Valid K) (f : Formula) where
   -- A listed cut is consistent.
   pub listed-consistent : (c : Cut) → Member c ((answer K f) .cuts) → Consistent K c
   unfolding answer
-  listed-consistent c m = listed-true K ok f c m .0
+  listed-consistent c m = listed-belongs K ok f c m .0
 
   -- So it has a count for each station.
   pub listed-size : (c : Cut) → Member c ((answer K f) .cuts) → length c ≡ stations K

@@ -1,10 +1,11 @@
 -- Some and all of a list.
-use mathlib.Core.Path.{refl, subst}
+use mathlib.Core.Path.{_≡_, refl, subst}
 use mathlib.Core.Logic.{_⊎_, inl, inr}
 use Prim.Native.Nat.{ℕ, zero, suc, _<_}
 use native.Mathlib.Omega.{arith}
 use mathlib.Core.List.{List, [], _∷_, _++_, map}
-use lib.ListN.{length, getD}
+use mathlib.Core.Option.{some}
+use lib.ListN.{length, getD, getElem?}
 use Rattle.model.specs.Lists.{Some, Member}
 use Rattle.model.specs.Lists.Some.{here, there}
 
@@ -73,6 +74,11 @@ pub all-map : {A : Type 0} {G G′ : A → Type 0} → ((x : A) → G x → G′
 all-map f done = done
 all-map f (also {x = x} p a) = also (f x p) (all-map f a)
 
+-- Two properties of all.
+pub all-both : {A : Type 0} {G H : A → Type 0} {l : List A} → All G l → All H l → All (λ x. G x × H x) l
+all-both done done = done
+all-both (also p a) (also q b) = also (p, q) (all-both a b)
+
 pub all-to-map : {A B : Type 0} {G : B → Type 0} (f : A → B) {l : List A} → All (λ x. G (f x)) l → All G (map f l)
 all-to-map f done = done
 all-to-map f (also p a) = also p (all-to-map f a)
@@ -96,3 +102,15 @@ pub all-at : {A : Type 0} {G : A → Type 0} {l : List A} → All G l → (d : A
 all-at done d i h = absurd (omega arith)
 all-at (also p a) d zero h = p
 all-at (also p a) d (suc i) h = all-at a d i (omega arith)
+
+-- The one that stands at a place.
+pub all-elem : {A : Type 0} {G : A → Type 0} (l : List A) → All G l → (i : ℕ) (x : A) → getElem? l i ≡ some x → G x
+all-elem [] a i x e = let z : _≡_ {A = ℕ} 0 1 = cc in absurd (omega arith)
+all-elem {G = G} (y ∷ l) (also p a) zero x e = let q : y ≡ x = cc in subst G q p
+all-elem (y ∷ l) (also p a) (suc i) x e = all-elem l a i x e
+
+-- What stands at a place stands within the list.
+pub some-below : {A : Type 0} (l : List A) (i : ℕ) (x : A) → getElem? l i ≡ some x → i < length l
+some-below [] i x e = let z : _≡_ {A = ℕ} 0 1 = cc in absurd (omega arith)
+some-below (y ∷ l) zero x e = omega arith
+some-below (y ∷ l) (suc i) x e = omega (arith, some-below l i x e)

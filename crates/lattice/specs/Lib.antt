@@ -3,3 +3,4 @@ pub mod OfStation
 pub mod Starts
 pub mod Chains
 pub mod Ascending
+pub mod Due

@@ -14,15 +14,18 @@ use Rattle.model.specs.Computation.{Computation, Event, noEvent, stations, hist
 use Rattle.structure.specs.Layout.{stationsAt}
 use Rattle.structure.specs.declared.Shape.{Shape}
 use Rattle.structure.specs.Shaped.{Shaped}
-use Rattle.structure.specs.Laid.{Laid, Facts}
-use Rattle.model.specs.Limits.{limits, startsSize, factsSize, storeSize}
-use Rattle.table.specs.Table.{slot}
+use Rattle.structure.specs.Laid.{messageAt, Laid, Facts}
+use Rattle.model.specs.Limits.{limits, valuesSize, startsSize, factsSize, storeSize}
+use Rattle.table.specs.Table.{slot, messageSlot}
 use Rattle.layout.specs.Rows.{inTurn, clockIn, clocksIn, startsIn, valuesOf, valuesIn}
+use Rattle.layout.specs.Messages.{Filled}
 use Rattle.layout.specs.StoredValid.{StoredValid}
+use Rattle.lattice.proofs.Lists.{some-below}
 use Rattle.offsets.proofs.Totals.{sum-next, sum-few}
 use Rattle.layout.proofs.Room.{rows-fit}
 use Rattle.layout.proofs.Turns.{spread, turns, turn-at, turn-total}
 use Rattle.layout.proofs.Cells.{Rows, clocks, stations-are}
+use Rattle.layout.proofs.Filling.{front-same, filed}
 
 -- The numbers in order.
 pub shaped-of : (n e : ℕ) (counts offs : List ℕ) → 0 < n → n ≤ limits .stations → total (take n counts) ≤ limits .events → total (take n counts) ≡ e
@@ -30,7 +33,7 @@ pub shaped-of : (n e : ℕ) (counts offs : List ℕ) → 0 < n → n ≤ limits 
 shaped-of n e counts offs z small few t-is o = record { some-station = z; few-stations = small; few-events = omega arith; events-are = t-is; offs-are = o }
 
 -- the counts of a loaded log
-module _ {K : Computation} {n : ℕ} {counts t : List ℕ} (g : StoredValid K n counts t) (fit : n ≤ length counts) where
+module _ {K : Computation} {n m : ℕ} {counts t : List ℕ} (g : StoredValid K n m counts t) (fit : n ≤ length counts) where
   pub counts-full : take n counts ≡ full K
   counts-full =
       let x : length (take n counts) ≡ n = length-take-le n counts fit in
@@ -142,8 +145,14 @@ module _ {K : Computation} {n : ℕ} {counts t : List ℕ} (g : StoredValid K n 
             starts-rows = rows-laid starts z q;
           }
 
-      pub faced : (values : List ℕ) → factsSize ≤ length values → take (e + n) values ≡ valuesIn t counts n → Facts K x values
-      faced values b p = record {
-        values-fit = omega arith;
-        values-are = λ j k h l. rw (← counts-full) (values-laid values (rw t-is p) j k h l);
+      pub faced : (d₀ d : List ℕ) → factsSize ≤ length d₀ → length d ≡ length d₀ → m ≤ limits .messages → take (e + n) d₀ ≡ valuesIn t counts n → (getD d valuesSize 0 ≡ m) × Filled t m d₀ d → Facts K x d
+      faced d₀ d b l few-m p f = record {
+        facts-fit = omega arith;
+        values-are = λ j k h o. rw (← counts-full) (values-laid d (rw t-is (sym same ∙ p)) j k h o);
+        few-messages = rw (g .messages) few-m;
+        messages-counted = f .0 ∙ sym (g .messages);
+        messages-are = λ q y h. filed y (messageSlot q) (messageAt q) (g .posted .at q y h) (f .1 .each q (rw (g .messages) at (some-below (K .messages) q y h)));
       }
+        where
+          same : take (e + n) d₀ ≡ take (e + n) d
+          same = front-same d₀ d (e + n) (omega arith) (sym l) (λ i h. sym (f .1 .before i (omega arith)))

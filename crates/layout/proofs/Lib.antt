@@ -2,5 +2,6 @@ pub mod Room
 pub mod Grown
 pub mod Turns
 pub mod Cells
+pub mod Filling
 pub mod Laying
 pub mod Closed

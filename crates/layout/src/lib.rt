@@ -1,8 +1,10 @@
-// The event table of a loaded log laid out for the basis, and the test whether a cut is consistent.
+// The store of a loaded log laid out for the basis, and the test whether a cut is consistent.
 pub mod consistent;
+mod messages;
 mod starts;
 mod values;
 
+use crate::messages::lay_messages;
 use crate::starts::lay_starts;
 use crate::values::lay_values;
 use offsets::offsets;
@@ -16,18 +18,19 @@ ghost use Rattle.model.specs.Computation.{Computation};
 ghost use Rattle.structure.specs.Laid.{Laid, Facts};
 ghost use Rattle.layout.specs.StoredValid.{StoredValid};
 
-// Lays the store of n stations and e events out in starts and facts, and gives its shape.
+// Lays the store of n stations, e events and k messages out in starts and facts, and gives its shape.
 pub fn lay(
     store: &[u8],
     n: usize,
     e: usize,
+    k: usize,
     counts: [u8; 8],
     starts: &mut [u8],
     facts: &mut [u16],
 ) -> Shape
     requires { ⌜ (0 < n) × (n ≤ limits .stations) × (length (now store) ≡ storeSize) × (startsSize ≤ length (now starts)) × (factsSize ≤ length (now facts)) ⌝ }
-    requires { ⌜ (length counts ≡ limits .stations) × (total (take n counts) ≡ e) × (e ≤ limits .events) ⌝ }
-    ensures { λ x. ⌜ (x .n ≡ n) × (x .e ≡ e) × ((K : Computation) → StoredValid K n counts (now (store .entry)) → Laid K x (now (starts .exit)) × Facts K x (now (facts .exit))) ⌝ }
+    requires { ⌜ (length counts ≡ limits .stations) × (total (take n counts) ≡ e) × (e ≤ limits .events) × (k ≤ limits .messages) ⌝ }
+    ensures { λ x. ⌜ (x .n ≡ n) × (x .e ≡ e) × ((K : Computation) → StoredValid K n k counts (now (store .entry)) → Laid K x (now (starts .exit)) × Facts K x (now (facts .exit))) ⌝ }
 {
     let offs = offsets(counts, n);
     let x = Shape {
@@ -38,5 +41,6 @@ pub fn lay(
     };
     lay_starts(store, x, starts);
     lay_values(store, x, facts);
+    lay_messages(store, k, facts);
     x
 }

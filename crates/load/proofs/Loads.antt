@@ -207,14 +207,16 @@ module _ {m : Limits} {log : List ℕ} {p : Position} {list t list′ t′ : Lis
 -- THE WHOLE
 
 pub bounded-fresh : {m : Limits} → Bounded m fresh
-bounded-fresh = record { few-stations = omega arith; few-events = omega arith; few-questions = omega arith; eight = refl; each = λ j. rw (zero-at j) (omega arith) }
+bounded-fresh = record { few-stations = omega arith; few-events = omega arith; few-messages = omega arith; few-questions = omega arith; eight = refl; each = λ j. rw (zero-at j) (omega arith) }
 
 holds-nothing : (t : List ℕ) → Represents nothing fresh t
 unfolding sum
 holds-nothing t = record {
   stored = record { size = refl; each = zero-at; table = record { values = λ j k l m. absurd (omega arith); clocks = λ j k l m. absurd (omega arith) } };
+  posted = record { at = λ q m e. let z : _≡_ {A = ℕ} 0 1 = cc in absurd (omega arith) };
   sizes = refl;
   events = refl;
+  messages = refl;
   questions = refl;
 }
 

@@ -20,5 +20,5 @@ module _ {m : Limits} {log : List ℕ} {s : State} {k : ℕ} {list t : List ℕ}
       → (firstQuestion s + q < length (a .reading .frames)) × (getD (a .reading .frames) (firstQuestion s + q) [] ≡ 0x30 ∷ getD (questionFrames (a .reading .frames)) q [])
   question-frame q h =
       let inside : q < length (a .reading .questions) = omega (arith, a .holds .questions) in
-      let place : firstQuestion s + q ≡ suc (eventCount (a .reading .computation)) + q = omega (arith, a .holds .events) in
+      let place : firstQuestion s + q ≡ suc (eventCount (a .reading .computation) + length (a .reading .computation .messages)) + q = omega (arith, a .holds .events, a .holds .messages) in
       (omega (arith, good .lawful .counted (good .begun), place), ap (λ (i : ℕ). getD (a .reading .frames) i []) place ∙ question-stands good q inside)

@@ -6,26 +6,27 @@ use Prim.Native.String as text
 use Prim.Native.String.{String}
 use mathlib.Core.List.{List, [], _∷_, _++_}
 use mathlib.Core.Bool.{true, false}
+use mathlib.Core.Option.{some}
 use lib.ListN.{drop, replicate}
 use Rattle.model.specs.Limits.{limits, printLimits, workspaceSize, barspaceSize, lineSize}
 use Rattle.model.specs.Lists.{sum, between, every}
 use Rattle.model.specs.Bytes.{push, linesOf, digit, byte, bytes, carried, items, hexDigit, hex, checkByte, line}
 use Rattle.model.specs.Looks.{own, wellFormed}
 use Rattle.model.specs.Frames.{word, words, logOf, listOf, before, entry, split, framesIn, framesOf}
-use Rattle.model.specs.Atom.{atomBytes, operands, atomOf, soundAtom, within, next, upTo, raiseTo, passes, raiseAtom}
-use Rattle.model.specs.Atom.Atom.{inRange}
+use Rattle.model.specs.Atom.{atomBytes, operands, atomOf, soundAtom, within, sentBy, onWay, noMessage, isTrue, askable, next, upTo, raiseTo, passes, raiseAtom}
+use Rattle.model.specs.Atom.Atom.{inRange, clear}
 use Rattle.model.specs.Formula.{Formula, prefix, ahead, one, two, sign, token, spelt, formulasIn, single, formulaOf, sound, weigh}
 use Rattle.model.specs.Formula.Formula.{atom, not, and, or, possibly, always}
 use Rattle.model.specs.Cut.{Cut, inside, insideAny, join}
-use Rattle.model.specs.Computation.{Computation, clock, value, known, isConsistent, counted, clockOk}
-use Rattle.model.specs.Rules.{asTrue, asFalse}
+use Rattle.model.specs.Computation.{Computation, clock, value, known, isConsistent, counted, clockOk, messageOk}
+use Rattle.model.specs.Rules.{asTrue, asFalse, workable}
 use Rattle.model.specs.Size.{width, bars, held, slim, narrow, fits}
 use Rattle.model.specs.Forecast.{mostBars, ceiling, forecast}
 use Rattle.model.specs.Structure.{row, joined, raiseBy, raise, reaches, inSet, belongs, belongsAny, joinRow, joinRows, greatest, keep, buildOn, build}
 use Rattle.model.specs.Basis.{thenRight, round, onward, after, run, start, intersect, each, pairs, below, lowered, barred, basis}
 use Rattle.model.specs.Rounds.{roundsOfPair, roundsOfPairs, rounds}
 use Rattle.model.specs.Answer.{notInside, add, tops, precedes, insert, sort, trueAt, answer, inRow, fourBytes, answerLine, refusalLine}
-use Rattle.model.specs.Reading.{Reading, begun, fault, check, headerForm, opened, admitHeader, eventForm, extended, unasked, admitEvent, asked, admitQuestion, admit, finish, proceed, readItems, readLog, readFrames, readList}
+use Rattle.model.specs.Reading.{Reading, begun, fault, check, headerForm, opened, admitHeader, eventForm, extended, unasked, unsent, admitEvent, informed, admitMessage, asked, admitQuestion, admit, finish, proceed, readItems, readLog, readFrames, readList}
 use Rattle.model.specs.Reply.{Reply, gives, refuses}
 use Rattle.model.specs.Promise.{Asked}
 use Rattle.model.specs.Operations.{readEffect, readOp, posing, openingOf, opening, cramped, forecastReplyTo, forecastOp, lineEffect, answerEffect, answerOp, holdsReplyTo, holdsOp, writeEffect, writeOp, answerLines, printedOf, printed}
@@ -58,6 +59,7 @@ benched = record {
       (record { value = 5; clock = 1 ∷ 0 ∷ [] } ∷ [])
       ∷ (record { value = 1; clock = 0 ∷ 1 ∷ [] } ∷ record { value = 2; clock = 1 ∷ 2 ∷ [] } ∷ [])
       ∷ [];
+  messages = [];
 }
 
 -- The reply of Holds at a cut of the bench log with Q.
@@ -73,11 +75,38 @@ three-ways = or (range 0 5 5) two-ways
 
 -- What has been read after k events of one station.
 pub after-events : ℕ → Reading
-after-events k = record { computation = record { initial = 0 ∷ []; events = replicate k (record { value = 0; clock = [] }) ∷ [] }; questions = []; frames = [] }
+after-events k = record { computation = record { initial = 0 ∷ []; events = replicate k (record { value = 0; clock = [] }) ∷ []; messages = [] }; questions = []; frames = [] }
+
+-- And after k messages.
+pub after-messages : ℕ → Reading
+after-messages k = record { computation = record { initial = 0 ∷ []; events = [] ∷ []; messages = replicate k (record { sender = 0; sent = 0; receiver = 0; received = 0 }) }; questions = []; frames = [] }
+
+-- A message from station 0, sent at its event 1, to station 1, received at its event k; never, where k is 0.
+pub message : ℕ → List ℕ
+message k = line (0x25 ∷ 0 ∷ 1 ∷ 1 ∷ k ∷ [])
+
+-- The bench log with some lines more before the question f.
+pub sending : List ℕ → Formula → List ℕ
+sending lines f = bench ++ lines ++ line (0x30 ∷ prefix f)
+
+-- 07 as a formula.
+pub none-between : ℕ → ℕ → Formula
+none-between i j = atom (clear i j)
+
+-- Two messages from station 0 to station 1: the event that receives the first brings in the sending of the second.
+pub interleaved : Computation
+interleaved = record {
+  initial = 0 ∷ 0 ∷ [];
+  events =
+      (record { value = 0; clock = 1 ∷ 0 ∷ [] } ∷ record { value = 0; clock = 2 ∷ 0 ∷ [] } ∷ [])
+      ∷ (record { value = 0; clock = 2 ∷ 1 ∷ [] } ∷ record { value = 0; clock = 2 ∷ 2 ∷ [] } ∷ [])
+      ∷ [];
+  messages = record { sender = 0; sent = 1; receiver = 1; received = 1 } ∷ record { sender = 0; sent = 2; receiver = 1; received = 2 } ∷ [];
+}
 
 -- All that is computed with: to unfold this is to unfold what its line names.
 definitions : Unit {0}
-unfolding ascii range bench Q asking holdsAt two-ways three-ways after-events sum between every push linesOf digit byte bytes carried items own wellFormed hexDigit hex checkByte line word words logOf listOf before entry split framesIn framesOf atomBytes operands atomOf soundAtom within next upTo raiseTo passes raiseAtom prefix ahead one two sign token spelt formulasIn single formulaOf sound weigh inside insideAny join clock value known isConsistent counted clockOk asTrue asFalse width bars held slim narrow fits row joined raiseBy raise reaches inSet belongs belongsAny joinRow joinRows greatest keep buildOn build thenRight round onward after run start intersect each pairs below lowered barred basis roundsOfPair roundsOfPairs rounds notInside add tops precedes insert sort trueAt answer inRow fourBytes answerLine refusalLine begun check headerForm opened admitHeader eventForm extended unasked admitEvent asked admitQuestion admit finish proceed readItems readLog readFrames readList readEffect readOp posing openingOf opening cramped forecastReplyTo forecastOp lineEffect answerEffect answerOp holdsReplyTo holdsOp writeEffect writeOp answerLines printedOf printed mostBars ceiling forecast
+unfolding ascii range bench Q asking holdsAt two-ways three-ways after-events after-messages message sending none-between interleaved sum between every push linesOf digit byte bytes carried items own wellFormed hexDigit hex checkByte line word words logOf listOf before entry split framesIn framesOf atomBytes operands atomOf soundAtom within sentBy onWay noMessage isTrue askable next upTo raiseTo passes raiseAtom prefix ahead one two sign token spelt formulasIn single formulaOf sound weigh inside insideAny join clock value known isConsistent counted clockOk messageOk asTrue asFalse workable width bars held slim narrow fits row joined raiseBy raise reaches inSet belongs belongsAny joinRow joinRows greatest keep buildOn build thenRight round onward after run start intersect each pairs below lowered barred basis roundsOfPair roundsOfPairs rounds notInside add tops precedes insert sort trueAt answer inRow fourBytes answerLine refusalLine begun check headerForm opened admitHeader eventForm extended unasked unsent admitEvent informed admitMessage asked admitQuestion admit finish proceed readItems readLog readFrames readList readEffect readOp posing openingOf opening cramped forecastReplyTo forecastOp lineEffect answerEffect answerOp holdsReplyTo holdsOp writeEffect writeOp answerLines printedOf printed mostBars ceiling forecast
 definitions = tt
 
 -- The twelve cases marked *.
@@ -169,6 +198,42 @@ pub sizes :
     × (writeOp limits (replicate 8194 1) [] .reply ≡ refuses 14 0)
 unfolding definitions
 sizes = (refl, refl, refl, refl, refl, refl, refl, refl, refl, refl, refl, refl, refl, refl)
+
+-- Messages: on the way up to its receiving, for ever if it never came, beside another atom, the other way, of one station; a message named twice; Holds before the receiving and at it.
+pub messages :
+    (printed (sending (message 2) (none-between 0 1)) ≡ ascii "400101010200000000BB\n")
+    × (printed (sending (message 0) (none-between 0 1)) ≡ ascii "400101000100000000BD\n")
+    × (printed (sending (message 2) (and (range 0 5 5) (not (not (none-between 0 1))))) ≡ ascii "400001010200000007B5\n")
+    × (printed (sending (message 0) (and (range 0 5 5) (none-between 0 1))) ≡ ascii "40000000000004BC\n")
+    × (printed (sending (message 0) (and (range 0 5 5) (none-between 1 0))) ≡ ascii "400001010200000006B6\n")
+    × (printed (sending (message 0) (none-between 0 0)) ≡ ascii "400101010200000000BB\n")
+    × (printed (sending (message 2) (always (not (none-between 0 1)))) ≡ ascii "40000000000000C0\n")
+    × (printed (sending (message 2 ++ message 2) (none-between 0 1)) ≡ ascii "400101010200000000BB\n")
+    × (printed (asking (none-between 0 1)) ≡ ascii "400101010200000000BB\n")
+    × (holdsOp limits (sending (message 2) (none-between 0 1)) 0 (1 ∷ 1 ∷ []) workspaceSize barspaceSize ≡ gives (0 ∷ []))
+    × (holdsOp limits (sending (message 2) (none-between 0 1)) 0 (1 ∷ 2 ∷ []) workspaceSize barspaceSize ≡ gives (1 ∷ []))
+unfolding definitions
+messages = (refl, refl, refl, refl, refl, refl, refl, refl, refl, refl, refl)
+
+-- What is refused: 15 where the receiving event's clock lacks the sending event, or where there is no sending event; 8 for a station that is not there, before 16; 16 by the sign alone; 4 for a message after a question, an event after a message, a 65th message, though it has no bytes.
+pub no-messages :
+    (printed (sending (message 1) (none-between 0 1)) ≡ ascii "500F00059C\n")
+    × (printed (sending (line (0x25 ∷ 0 ∷ 0 ∷ 1 ∷ 2 ∷ [])) (none-between 0 1)) ≡ ascii "500F00059C\n")
+    × (printed (sending (message 2) (not (none-between 0 2))) ≡ ascii "50080006A2\n")
+    × (printed (sending (message 2) (not (none-between 0 1))) ≡ ascii "501000069A\n")
+    × (printed (sending (message 2) (always (none-between 0 1))) ≡ ascii "501000069A\n")
+    × (printed (sending (message 2) (possibly (not (none-between 0 1)))) ≡ ascii "501000069A\n")
+    × (printed (asking Q ++ message 2) ≡ ascii "50040006A6\n")
+    × (printed (sending (message 2 ++ line (0x20 ∷ [])) Q) ≡ ascii "50040006A6\n")
+    × (admit limits (after-messages 63) (0x25 ∷ []) ≡ fault 15)
+    × (admit limits (after-messages 64) (0x25 ∷ []) ≡ fault 4)
+unfolding definitions
+no-messages = (refl, refl, refl, refl, refl, refl, refl, refl, refl, refl)
+
+-- Receiving the first message is not enough, since with it the second is sent.
+pub received-in-turn : raiseAtom interleaved true (clear 0 1) (1 ∷ 0 ∷ []) ≡ some (2 ∷ 2 ∷ [])
+unfolding definitions
+received-in-turn = refl
 
 -- What is promised of accepted logs and their questions is promised of this one.
 pub bench-asked : Asked limits (asking Q) 0 benched Q

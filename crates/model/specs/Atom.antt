@@ -1,6 +1,6 @@
 -- Atoms, the tokens of a formula that are no signs: their bytes, when one is true, and how a cut is raised to one at which it is.
 use Prim.Native.Nat.{ℕ, zero, suc, _-_, _/_, _%_}
-use mathlib.Core.Bool.{Bool, true, false, cond, not, _||_}
+use mathlib.Core.Bool.{Bool, true, false, cond, not, _&&_, _||_}
 use mathlib.Core.List.{List, [], _∷_}
 use mathlib.Core.Option.{Option, none, some}
 use lib.ListN.{drop, getD}
@@ -8,29 +8,33 @@ use lib.Dec.{leb, ltb, eqb}
 use Rattle.model.specs.Lists.{between}
 use Rattle.model.specs.Frames.{word}
 use Rattle.model.specs.Cut.{Cut, _!_, join}
-use Rattle.model.specs.Computation.{Computation, count, clock, value}
+use Rattle.model.specs.Computation.{Computation, Message, count, clock, value}
 
 pub data Atom : Type 0 where
   -- 01, station, lo, hi: the station's value is in the range from lo to hi
   inRange : ℕ → ℕ → ℕ → Atom
+  -- 07, i, j: no message from i to j is on its way
+  clear : ℕ → ℕ → Atom
 
 -- BYTES
 
 -- The token byte and what follows it.
 unfoldable pub atomBytes : Atom → List ℕ
 atomBytes (inRange s lo hi) = 0x01 ∷ s ∷ (lo / 256) ∷ (lo % 256) ∷ (hi / 256) ∷ (hi % 256) ∷ []
+atomBytes (clear i j) = 0x07 ∷ i ∷ j ∷ []
 
 -- How many bytes follow the token byte of an atom; none if the token is no atom's.
 unfoldable pub operands : ℕ → Option ℕ
-operands t = cond (eqb t 0x01) (some 5) none
+operands t = cond (eqb t 0x01) (some 5) (cond (eqb t 0x07) (some 2) none)
 
 -- The atom of a token byte and the bytes that follow.
 unfoldable pub atomOf : ℕ → List ℕ → Atom
-atomOf t q = inRange (getD q 0 0) (word (drop 1 q)) (word (drop 3 q))
+atomOf t q = cond (eqb t 0x01) (inRange (getD q 0 0) (word (drop 1 q)) (word (drop 3 q))) (clear (getD q 0 0) (getD q 1 0))
 
 -- Of n stations each that is named is there.
 unfoldable pub soundAtom : ℕ → Atom → Bool
 soundAtom n (inRange s lo hi) = ltb s n
+soundAtom n (clear i j) = ltb i n && ltb j n
 
 -- TRUTH
 
@@ -38,9 +42,28 @@ soundAtom n (inRange s lo hi) = ltb s n
 unfoldable pub within : ℕ → ℕ → ℕ → Bool
 within lo hi v = cond (leb lo hi) (between lo hi v) (leb lo v || leb v hi)
 
+-- Is it a message from i to j, and sent by event x of i or before?
+unfoldable pub sentBy : ℕ → ℕ → ℕ → Message → Bool
+sentBy i j x m = eqb (m .sender) i && eqb (m .receiver) j && leb (m .sent) x
+
+-- Is it one of which the cut holds the sending and not the receiving?
+unfoldable pub onWay : ℕ → ℕ → Cut → Message → Bool
+onWay i j c m = sentBy i j (c ! i) m && not (between 1 (c ! j) (m .received))
+
+-- Does no message pass the test?
+unfoldable pub noMessage : (Message → Bool) → List Message → Bool
+noMessage p [] = true
+noMessage p (m ∷ l) = not (p m) && noMessage p l
+
 -- Is the atom true at the cut? If not, it is false there.
 unfoldable pub isTrue : Computation → Atom → Cut → Bool
 isTrue K (inRange s lo hi) c = within lo hi (value K s (c ! s))
+isTrue K (clear i j) c = noMessage (onWay i j c) (K .messages)
+
+-- Can the atom be worked out, as true or as false? 07 cannot as false.
+unfoldable pub askable : Bool → Atom → Bool
+askable b (inRange s lo hi) = true
+askable b (clear i j) = b
 
 -- RAISING: the least consistent cut that contains c and at which an atom is true, or false; or none
 
@@ -63,6 +86,8 @@ unfoldable pub passes : Bool → ℕ → ℕ → ℕ → Bool
 passes true lo hi v = within lo hi v
 passes false lo hi v = not (within lo hi v)
 
--- For an atom as true, or as false: 01 looks for a value of its station.
+-- For an atom as true, or as false: 01 looks for a value of its station, 07 for an event of the receiver at which nothing is on its way; as false 07 is not worked out, and none stands for it.
 unfoldable pub raiseAtom : Computation → Bool → Atom → Cut → Option Cut
 raiseAtom K b (inRange s lo hi) c = raiseTo K s (λ k. passes b lo hi (value K s k)) c
+raiseAtom K true (clear i j) c = raiseTo K j (λ k. isTrue K (clear i j) (join c (clock K j k))) c
+raiseAtom K false (clear i j) c = none

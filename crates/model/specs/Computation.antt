@@ -1,11 +1,11 @@
--- What the stations did: their first values and their events, each with a clock.
+-- What the stations did: their first values, their events, each with a clock, and the messages between them.
 use mathlib.Core.Path.{_≡_}
 use Prim.Native.Nat.{ℕ, zero, suc, _-_, _≤_}
-use mathlib.Core.Bool.{Bool, cond, _&&_}
+use mathlib.Core.Bool.{Bool, cond, not, _&&_, _||_}
 use mathlib.Core.List.{List, [], map}
 use lib.ListN.{length, getD}
-use lib.Dec.{leb, eqb}
-use Rattle.model.specs.Lists.{total, every}
+use lib.Dec.{leb, ltb, eqb}
+use Rattle.model.specs.Lists.{total, between, every}
 use Rattle.model.specs.Cut.{Cut, _!_, _⊑_, empty, inside}
 
 -- An event: the station's new value, and for each station how many of its events lie before it or are it.
@@ -13,10 +13,18 @@ pub record Event : Type 0 where
   pub value : ℕ
   pub clock : Cut
 
--- The first value of each station, and the events of each station in their order.
+-- A message: the sender and the number of its event, the receiver and the number of its event, or 0 if it never came.
+pub record Message : Type 0 where
+  pub sender : ℕ
+  pub sent : ℕ
+  pub receiver : ℕ
+  pub received : ℕ
+
+-- The first value of each station, the events of each station in their order, and the messages.
 pub record Computation : Type 0 where
   pub initial : List ℕ
   pub events : List (List Event)
+  pub messages : List Message
 
 -- The number of stations.
 abbrev pub stations : Computation → ℕ
@@ -73,3 +81,13 @@ counted s v j = cond (eqb j s) (v ! j - 1) (v ! j)
 -- The rule for the clock of the next event of station s.
 unfoldable pub clockOk : Computation → ℕ → Cut → Bool
 clockOk K s v = eqb (v ! s) (suc (count K s)) && every (stations K) (λ j. known K v j (counted s v j))
+
+-- The rule for a message: its stations and events are there, no station sends to itself, and, if it came, the clock of the receiving event has the sending event.
+unfoldable pub messageOk : Computation → Message → Bool
+messageOk K m =
+    ltb (m .sender) (stations K)
+    && ltb (m .receiver) (stations K)
+    && between 1 (count K (m .sender)) (m .sent)
+    && leb (m .received) (count K (m .receiver))
+    && not (eqb (m .sender) (m .receiver))
+    && (eqb (m .received) 0 || leb (m .sent) (clock K (m .receiver) (m .received) ! m .sender))

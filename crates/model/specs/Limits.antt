@@ -2,13 +2,13 @@
 use Prim.Native.Nat.{ℕ, _+_, _*_}
 use Rattle.model.specs.declared.Limits.{Limits}
 
--- Of the operations: 1 to 8 stations, 0 to 254 events, 0 to 16 questions, a log of at most 16,384 bytes, a frame list of at most 8,192.
+-- Of the operations: 1 to 8 stations, 0 to 254 events, 0 to 64 messages, 0 to 16 questions, a log of at most 16,384 bytes, a frame list of at most 8,192.
 abbrev pub limits : Limits
-limits = record { stations = 8; events = 254; questions = 16; bytes = 16384; list = 8192 }
+limits = record { stations = 8; events = 254; messages = 64; questions = 16; bytes = 16384; list = 8192 }
 
 -- Of the printing program, and of the operations before document 02 raised theirs: 127 events, a log of at most 8,192 bytes, a frame list of at most 4,096.
 abbrev pub printLimits : Limits
-printLimits = record { stations = 8; events = 127; questions = 16; bytes = 8192; list = 4096 }
+printLimits = record { stations = 8; events = 127; messages = 64; questions = 16; bytes = 8192; list = 4096 }
 
 -- LENT BY THE CALLER: cells of the bar space, bytes of the output for an answer line
 abbrev pub barspaceSize : ℕ
@@ -35,17 +35,24 @@ slotSize = limits .stations + 2
 abbrev pub tableSize : ℕ
 tableSize = limits .stations * (limits .events + 1) * slotSize
 
--- What is read of a log: the event table is all of it.
+-- The bytes of a message: sender, number of its event, receiver, number of its event.
+abbrev pub messageSize : ℕ
+messageSize = 4
+
+-- What is read of a log: the event table, and behind it the messages.
 abbrev pub storeSize : ℕ
-storeSize = tableSize
+storeSize = tableSize + limits .messages * messageSize
 
 -- The starts: the empty cut and the clock of each event.
 abbrev pub startsSize : ℕ
 startsSize = (limits .events + 1) * limits .stations
 
--- What atoms look at: a value for each station and for each event.
+-- What atoms look at: a value for each station and for each event; then the number of messages, and three numbers for each.
+abbrev pub valuesSize : ℕ
+valuesSize = limits .stations + limits .events
+
 abbrev pub factsSize : ℕ
-factsSize = limits .stations + limits .events
+factsSize = valuesSize + 1 + 3 * limits .messages
 
 -- The longest answer's frame: kind, start, number of cuts; at most 16 cuts; the rounds.
 abbrev pub frameSize : ℕ

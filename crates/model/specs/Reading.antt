@@ -10,7 +10,8 @@ use Rattle.model.specs.Lists.{between}
 use Rattle.model.specs.Bytes.{linesOf, Item, frame, bad, items}
 use Rattle.model.specs.Frames.{word, words, framesOf}
 use Rattle.model.specs.Formula.{Formula, formulaOf, sound}
-use Rattle.model.specs.Computation.{Event, Computation, stations, history, eventCount, clockOk}
+use Rattle.model.specs.Rules.{asTrue, workable}
+use Rattle.model.specs.Computation.{Event, Message, Computation, stations, history, eventCount, clockOk, messageOk}
 use Rattle.model.specs.Size.{fits}
 
 -- What has been read: the computation, with no stations before the header; the questions; the frames.
@@ -20,7 +21,7 @@ pub record Reading : Type 0 where
   pub frames : List (List ℕ)
 
 abbrev pub nothing : Reading
-nothing = record { computation = record { initial = []; events = [] }; questions = []; frames = [] }
+nothing = record { computation = record { initial = []; events = []; messages = [] }; questions = []; frames = [] }
 
 -- Has a header been read?
 unfoldable pub begun : Reading → Bool
@@ -41,9 +42,9 @@ check k false s = fault k
 unfoldable pub headerForm : Limits → List ℕ → Bool
 headerForm m f = leb 1 (length f) && between 1 (m .stations) (getD f 0 0) && eqb (length f) (1 + 2 * getD f 0 0)
 
--- The stations with their initial values, and no events.
+-- The stations with their initial values, no events and no messages.
 unfoldable pub opened : List ℕ → Computation
-opened values = record { initial = values; events = map (λ (v : ℕ). []) values }
+opened values = record { initial = values; events = map (λ (v : ℕ). []) values; messages = [] }
 
 -- What has been read after a header.
 abbrev pub withHeader : Reading → List ℕ → Reading
@@ -65,7 +66,7 @@ eventForm n f = eqb (length f) (n + 3) && ltb (stationOf f) n
 
 -- The computation with one more event of station s.
 unfoldable pub extended : Computation → ℕ → Event → Computation
-extended K s e = record { initial = K .initial; events = set (K .events) s (history K s ++ (e ∷ [])) }
+extended K s e = record { initial = K .initial; events = set (K .events) s (history K s ++ (e ∷ [])); messages = K .messages }
 
 -- What has been read after an event.
 abbrev pub withEvent : Reading → List ℕ → Reading
@@ -75,12 +76,35 @@ withEvent r f = record { computation = extended (r .computation) (stationOf f) (
 unfoldable pub unasked : Reading → Bool
 unasked r = eqb (length (r .questions)) 0
 
+-- No message has been named yet.
+unfoldable pub unsent : Reading → Bool
+unsent r = eqb (length (r .computation .messages)) 0
+
 unfoldable pub admitEvent : Limits → Reading → List ℕ → Step
 admitEvent m r f =
-    check 4 (begun r && unasked r && ltb (eventCount (r .computation)) (m .events))
+    check 4 (begun r && unasked r && unsent r && ltb (eventCount (r .computation)) (m .events))
     (check 6 (eventForm (stations (r .computation)) f)
     (check 7 (clockOk (r .computation) (stationOf f) (eventOf f .clock))
     (go (withEvent r f))))
+
+-- MESSAGE: sender, number of its event, receiver, number of its event or 00
+
+abbrev pub messageOf : List ℕ → Message
+messageOf f = record { sender = getD f 0 0; sent = getD f 1 0; receiver = getD f 2 0; received = getD f 3 0 }
+
+-- The computation with one more message.
+unfoldable pub informed : Computation → Message → Computation
+informed K x = record { initial = K .initial; events = K .events; messages = K .messages ++ (x ∷ []) }
+
+-- What has been read after a message.
+abbrev pub withMessage : Reading → List ℕ → Reading
+withMessage r f = record { computation = informed (r .computation) (messageOf f); questions = r .questions; frames = r .frames ++ ((0x25 ∷ f) ∷ []) }
+
+unfoldable pub admitMessage : Limits → Reading → List ℕ → Step
+admitMessage m r f =
+    check 4 (begun r && unasked r && ltb (length (r .computation .messages)) (m .messages))
+    (check 15 (eqb (length f) 4 && messageOk (r .computation) (messageOf f))
+    (go (withMessage r f)))
 
 -- QUESTION: one formula in prefix form
 
@@ -90,7 +114,7 @@ withQuestion r f φ = record { computation = r .computation; questions = r .ques
 
 unfoldable pub asked : Reading → List ℕ → Option Formula → Step
 asked r f none = fault 8
-asked r f (some φ) = check 8 (sound (stations (r .computation)) φ) (check 9 (fits φ) (go (withQuestion r f φ)))
+asked r f (some φ) = check 8 (sound (stations (r .computation)) φ) (check 9 (fits φ) (check 16 (workable (asTrue φ)) (go (withQuestion r f φ))))
 
 unfoldable pub admitQuestion : Limits → Reading → List ℕ → Step
 admitQuestion m r f = check 4 (begun r && ltb (length (r .questions)) (m .questions)) (asked r f (formulaOf f))
@@ -101,7 +125,8 @@ admit m r [] = fault 4
 admit m r (kind ∷ f) =
     cond (eqb kind 0x10) (admitHeader m r f)
     (cond (eqb kind 0x20) (admitEvent m r f)
-    (cond (eqb kind 0x30) (admitQuestion m r f) (fault 4)))
+    (cond (eqb kind 0x25) (admitMessage m r f)
+    (cond (eqb kind 0x30) (admitQuestion m r f) (fault 4))))
 
 -- ALL FRAMES
 

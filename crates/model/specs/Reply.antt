@@ -2,7 +2,7 @@
 use Prim.Native.Nat.{ℕ}
 use mathlib.Core.List.{List, [], _∷_}
 use Rattle.model.specs.declared.Fault.{Fault}
-use Rattle.model.specs.declared.Fault.the-variants.{LongLog, LineForm, CheckByte, Kind, Header, Event, Clock, Formula, Size, NoQuestion, Workspace, Output, Cut, FrameList}
+use Rattle.model.specs.declared.Fault.the-variants.{LongLog, LineForm, CheckByte, Kind, Header, Event, Clock, Formula, Size, NoQuestion, Workspace, Output, Cut, FrameList, Message, Unworkable}
 use Rattle.model.specs.declared.Refusal.{Refusal}
 use Rattle.model.specs.declared.ReadAnswer.{ReadAnswer}
 use Rattle.model.specs.declared.WriteAnswer.{WriteAnswer}
@@ -36,6 +36,8 @@ number Workspace = 11
 number Output = 12
 number Cut = 13
 number FrameList = 14
+number Message = 15
+number Unworkable = 16
 
 abbrev pub refusal : Refusal → Reply
 refusal r = refuses (number (r .fault)) (r .line)

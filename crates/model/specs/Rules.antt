@@ -1,6 +1,6 @@
 -- The two rules: a formula and its negation, worked out until no sign is left but those of a basis.
-use mathlib.Core.Bool.{Bool, true, false}
-use Rattle.model.specs.Atom.{Atom}
+use mathlib.Core.Bool.{Bool, true, false, _&&_}
+use Rattle.model.specs.Atom.{Atom, askable}
 use Rattle.model.specs.Formula.{Formula}
 use Rattle.model.specs.Formula.Formula.{atom, not, and, or, possibly, always}
 
@@ -31,3 +31,11 @@ unfoldable mutual
   asFalse (or f g) = both (asFalse f) (asFalse g)
   asFalse (possibly f) = impossible (asTrue f)
   asFalse (always f) = possible (asFalse f)
+
+-- Can each atom be worked out under the sign in which the rules come to it?
+unfoldable pub workable : Normal → Bool
+workable (literal b a) = askable b a
+workable (both p q) = workable p && workable q
+workable (either p q) = workable p && workable q
+workable (possible p) = workable p
+workable (impossible p) = workable p

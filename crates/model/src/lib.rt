@@ -10,6 +10,7 @@ ghost use Rattle.model.specs.Reply.{gives, number, holdsReply};
 pub struct Limits {
     pub stations: usize,
     pub events: usize,
+    pub messages: usize,
     pub questions: usize,
     pub bytes: usize,
     pub list: usize,
@@ -27,6 +28,8 @@ impl Log {
     pub const STATIONS: usize = 8;
 
     pub const EVENTS: usize = 254;
+
+    pub const MESSAGES: usize = 64;
 
     pub const QUESTIONS: usize = 16;
 
@@ -61,14 +64,19 @@ impl Log {
     // The event table: for each station a slot before its first event and one for each event.
     pub const TABLE: usize = Log::STATIONS * (Log::EVENTS + 1) * Log::SLOT;
 
-    // What is read of a log: the event table is all of it.
-    pub const STORE: usize = Log::TABLE;
+    // The bytes of a message: sender, number of its event, receiver, number of its event.
+    pub const MESSAGE: usize = 4;
+
+    // What is read of a log: the event table, and behind it the messages.
+    pub const STORE: usize = Log::TABLE + Log::MESSAGES * Log::MESSAGE;
 
     // The starts: the empty cut and the clock of each event.
     pub const STARTS: usize = (Log::EVENTS + 1) * Log::STATIONS;
 
-    // What atoms look at: a value for each station and for each event.
-    pub const FACTS: usize = Log::STATIONS + Log::EVENTS;
+    // What atoms look at: a value for each station and for each event; then the number of messages, and three numbers for each.
+    pub const VALUES: usize = Log::STATIONS + Log::EVENTS;
+
+    pub const FACTS: usize = Log::VALUES + 1 + 3 * Log::MESSAGES;
 
     // The longest answer: its listed cuts, and its frame.
     pub const CUTS: usize = 16 * Log::STATIONS;
@@ -82,6 +90,7 @@ impl Log {
         Limits {
             stations: Log::STATIONS,
             events: Log::EVENTS,
+            messages: Log::MESSAGES,
             questions: Log::QUESTIONS,
             bytes: Log::BYTES,
             list: Log::LIST,
@@ -95,6 +104,7 @@ impl Log {
         Limits {
             stations: Log::STATIONS,
             events: Log::PRINT_EVENTS,
+            messages: Log::MESSAGES,
             questions: Log::QUESTIONS,
             bytes: Log::PRINT_BYTES,
             list: Log::PRINT_LIST,
@@ -125,6 +135,8 @@ pub enum Fault {
     Output,
     Cut,
     FrameList,
+    Message,
+    Unworkable,
 }
 
 impl Fault {
@@ -147,6 +159,8 @@ impl Fault {
             Fault::Output => 12,
             Fault::Cut => 13,
             Fault::FrameList => 14,
+            Fault::Message => 15,
+            Fault::Unworkable => 16,
         }
     }
 }

@@ -1,4 +1,4 @@
--- What a loaded log gives: its computation can be laid out, and each question of it can be found, is sound and fits.
+-- What a loaded log gives: its computation can be laid out, and each question of it can be found, is sound, fits and can be worked out.
 use mathlib.Core.Path.{_≡_, refl, sym, ap, _∙_}
 use mathlib.Core.Bool.{true}
 use mathlib.Core.List.{List, [], _∷_}
@@ -11,12 +11,13 @@ use Rattle.model.specs.declared.Limits.{Limits}
 use Rattle.model.specs.Limits.{limits}
 use Rattle.model.specs.Lists.{total}
 use Rattle.model.specs.Formula.{Formula, prefix, sound}
+use Rattle.model.specs.Rules.{asTrue, workable}
 use Rattle.model.specs.Size.{fits}
 use Rattle.model.specs.Cut.{Cut}
 use Rattle.model.specs.Computation.{stations, count, eventCount, full, isConsistent}
 use Rattle.model.specs.Promise.{Asked}
 use Rattle.lattice.proofs.Consistency.{consistent-iff}
-use Rattle.lattice.proofs.Lists.{all-at}
+use Rattle.lattice.proofs.Lists.{all-at, some-below}
 use Rattle.codec.specs.Limits.{NoLarger}
 use Rattle.codec.proofs.Bytes.{Bytes, bytes-tail}
 use Rattle.codec.proofs.Formulas.{prefix-formula}
@@ -43,11 +44,6 @@ no-question [] q h = refl
 no-question (f ∷ l) zero h = absurd (omega arith)
 no-question (f ∷ l) (suc q) h = no-question l q (omega arith)
 
-question-below : (l : List Formula) (q : ℕ) (f : Formula) → getElem? l q ≡ some f → q < length l
-question-below [] q f e = let z : _≡_ {A = ℕ} 0 1 = cc in absurd (omega arith)
-question-below (g ∷ l) zero f e = omega arith
-question-below (g ∷ l) (suc q) f e = omega (arith, question-below l q f e)
-
 module _ {m : Limits} {log : List ℕ} {s : State} {k : ℕ} {list t : List ℕ} (a : Accepts m log s k list t) where
   law : Lawful m (a .reading)
   law = good a .lawful
@@ -60,8 +56,8 @@ module _ {m : Limits} {log : List ℕ} {s : State} {k : ℕ} {list t : List ℕ}
   pub few-at : eventCount (a .reading .computation) ≤ m .events
   few-at = law .few-events
 
-  pub loaded : StoredValid (a .reading .computation) (s .stations) (s .counts) t
-  loaded = record { stored = a .holds .stored; valid = law .valid }
+  pub loaded : StoredValid (a .reading .computation) (s .stations) (s .messages) (s .counts) t
+  loaded = record { stored = a .holds .stored; posted = a .holds .posted; messages = sym (a .holds .messages); valid = law .valid }
 
   pub counts-total : NoLarger m limits → total (take (s .stations) (s .counts)) ≡ s .events
   counts-total fit =
@@ -99,7 +95,7 @@ module _ {m : Limits} {log : List ℕ} {s : State} {k : ℕ} {list t : List ℕ}
 
   module _ (q : ℕ) (f : Formula) (is : getElem? (a .reading .questions) q ≡ some f) where
     pub below : q < s .questions
-    below = omega (arith, question-count, question-below (a .reading .questions) q f is)
+    below = omega (arith, question-count, some-below (a .reading .questions) q f is)
 
     pub spelt-at : bytesAt q ≡ prefix f
     spelt-at = sym (prefix-formula (bytesAt q) f (bytes-are q below) (question-spelt (law .framed) q ∙ is) .0)
@@ -107,5 +103,5 @@ module _ {m : Limits} {log : List ℕ} {s : State} {k : ℕ} {list t : List ℕ}
     pub is-asked : Asked m log q (a .reading .computation) f
     is-asked = record { frames = a .reading .frames; questions = a .reading .questions; reads = a .is; is = is }
 
-    pub good-at : (sound (stations (a .reading .computation)) f ≡ true) × (fits f ≡ true)
+    pub good-at : (sound (stations (a .reading .computation)) f ≡ true) × (fits f ≡ true) × (workable (asTrue f) ≡ true)
     good-at = law .good q f is

@@ -21,7 +21,7 @@ ghost use Rattle.structure.specs.Laid.{Given};
 ghost use Rattle.load.specs.Loading.{Accepts};
 ghost use Rattle.opening.specs.Opening.{Holding, Opens};
 
-// Loads a log within the limits m, and looks whether it has a question of this number: the refusals 1 to 9, then 10.
+// Loads a log within the limits m, and looks whether it has a question of this number: the refusals of Read, then 10.
 pub fn open_log(
     m: model::Limits,
     log: &[u8],
@@ -76,7 +76,7 @@ pub fn lay(store: &[u8], loaded: Loaded, starts: &mut [u8], facts: &mut [u16]) -
     let n = s.stations;
     let e = s.events;
     let counts = s.counts;
-    layout::lay(store, n, e, counts, starts, facts)
+    layout::lay(store, n, e, s.messages, counts, starts, facts)
 }
 
 // What a question of a loaded log can cost.

@@ -16,7 +16,7 @@ use Rattle.model.specs.Answer.{trueAt, yesNo}
 use Rattle.model.specs.Reading.{Result, refused, accepted, readLog, readList}
 use Rattle.model.specs.declared.Forecast.{Forecast}
 use Rattle.model.specs.declared.Fault.{Fault}
-use Rattle.model.specs.declared.Fault.the-variants.{LongLog, LineForm, CheckByte, Kind, Header, Event, Clock, Formula, Size, NoQuestion, Workspace, Output, Cut as CutFault, FrameList}
+use Rattle.model.specs.declared.Fault.the-variants.{LongLog, LineForm, CheckByte, Kind, Header, Event, Clock, Formula, Size, NoQuestion, Workspace, Output, Cut as CutFault, FrameList, Message, Unworkable}
 use Rattle.model.specs.Reply.{Reply, gives, refuses, number, figures}
 use Rattle.model.specs.Operations.{Effect, readEffect, readOp, Opening, shut, poses, opening, cramped, forecastReplyTo, forecastOp, lineEffect, answerEffect, answerOp, holdsReplyTo, holdsOp, writeEffect, writeOp}
 use Rattle.codec.proofs.Accepted.{accepted-log, accepted-list}
@@ -118,6 +118,8 @@ few-faults Workspace = omega arith
 few-faults Output = omega arith
 few-faults CutFault = omega arith
 few-faults FrameList = omega arith
+few-faults Message = omega arith
+few-faults Unworkable = omega arith
 
 -- One value is its own number.
 pub one-packed : (w v : ℕ) (x : Reply) → gives (v ∷ []) ≡ x → v ≡ packed (w ∷ []) x

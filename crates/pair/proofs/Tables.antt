@@ -3,13 +3,13 @@ use mathlib.Core.Path.{_≡_, refl, sym, ap, subst, _∙_}
 use Prim.Native.Nat.{ℕ, zero, suc, _+_, _*_, _≤_, _<_}
 use native.Mathlib.Omega.{arith}
 use native.Mathlib.Nat.{le-trans, mul-le-mul}
-use mathlib.Core.List.{List, [], _∷_, map}
-use mathlib.Core.Option.{Option, none, some}
-use lib.ListN.{length, getD, take, drop, List·getD-map}
+use mathlib.Core.List.{List, []}
+use mathlib.Core.Option.{Option, some}
+use lib.ListN.{getD, take, drop}
 use lib.Seq.{drop-drop}
 use Rattle.model.specs.Lists.{total}
-use Rattle.model.specs.Cut.{Cut, empty}
-use Rattle.model.specs.Computation.{Computation, Event, Consistent, noEvent, history, stations, count, clock, full, eventCount}
+use Rattle.model.specs.Cut.{Cut}
+use Rattle.model.specs.Computation.{Computation, Consistent, stations, count, clock, full, eventCount}
 use Rattle.model.specs.Structure.{Structure, row}
 use Rattle.lattice.proofs.Bases.{Good}
 use Rattle.lattice.proofs.Consistency.{full-at, count-le, clock-consistent}
@@ -17,6 +17,7 @@ use Rattle.structure.specs.declared.Shape.{Shape}
 use Rattle.structure.specs.Layout.{decoded, structureAt}
 use Rattle.structure.proofs.Rows.{decoded-some}
 use Rattle.structure.proofs.Places.{row-place}
+use Rattle.structure.proofs.Starts.{row-clock, offs-is}
 use Rattle.slots.specs.Slots.{number, Small, Says, Slots, Rows, Offsets}
 use Rattle.structure.specs.Laid.{Laid}
 use Rattle.pair.specs.Post.{structureOf, Begun}
@@ -52,11 +53,6 @@ offsets-are x K code p o c j h = c j (omega (arith, p)) ∙ o j (omega (arith, p
 
 -- STARTS
 
-getD-some : {A B : Type 0} (g : A → B) (l : List A) (k : ℕ) (d : A) (z : B) → k < length l → getD (map g l) k z ≡ g (getD l k d)
-getD-some g [] k d z h = absurd (omega arith)
-getD-some g (a ∷ l) zero d z h = refl
-getD-some g (a ∷ l) (suc k) d z h = getD-some g l k d z (omega arith)
-
 module _ (K : Computation) (x : Shape) (starts : List ℕ) (laid : Laid K x starts) where
   laid-small : Small K
   laid-small = record {
@@ -70,22 +66,11 @@ module _ (K : Computation) (x : Shape) (starts : List ℕ) (laid : Laid K x star
   abbrev S₀ : Structure
   S₀ = structureAt (x .n) (full K) (drop 0 starts) []
 
-  row-clock : (j k : ℕ) → k ≤ count K j → row S₀ j k ≡ some (clock K j k)
-  unfolding row clock
-  row-clock j zero h = ap some (laid .starts-least ∙ ap empty (sym (laid .stationed)))
-  row-clock j (suc k) h =
-      ap (λ (r : List (List (Option Cut))). getD (getD r j []) k none) (laid .starts-rows)
-      ∙ ap (λ (r : List (Option Cut)). getD r k none) (List·getD-map (map (λ (v : Event). some (v .clock))) (K .events) j [])
-      ∙ getD-some (λ (v : Event). some (v .clock)) (history K j) k noEvent none h
-
   start-rows : Rows K (row S₀) (x .n) 0 starts
   start-rows = rows-in K laid-small (x .n) (laid .stationed) starts [] 0 (λ j k h d f.
-      let e : some (clock K j k) ≡ some d = sym (row-clock j k h) ∙ f in
+      let e : some (clock K j k) ≡ some d = sym (row-clock K x starts laid j k h) ∙ f in
       let q : clock K j k ≡ d = cc in
       subst (Consistent K) q (clock-consistent K (laid .valid) j k h))
-
-  laid-offs : (j : ℕ) → j < x .n → getD (x .offs) j 0 ≡ total (take j (full K))
-  laid-offs j h = laid .shaped .offs-are j h ∙ ap (λ (l : List ℕ). total (take j l)) (laid .counts-are)
 
   laid-begun : (first : List ℕ) → Slots K (row S₀) first → Begun x first K
   laid-begun first s = record {
@@ -93,14 +78,14 @@ module _ (K : Computation) (x : Shape) (starts : List ℕ) (laid : Laid K x star
     stationed = laid .stationed;
     counted = laid .counted;
     counts-are = laid .counts-are;
-    offs-are = laid-offs;
-    clocks-are = λ j k h. subst (λ (o : Option Cut). Says K o (take 8 (drop (8 * number K j k) first))) (row-clock j k h) (s j k h);
+    offs-are = offs-is K x starts laid;
+    clocks-are = λ j k h. subst (λ (o : Option Cut). Says K o (take 8 (drop (8 * number K j k) first))) (row-clock K x starts laid j k h) (s j k h);
   }
 
   -- The starts as the code puts them into a table.
   pub laid-table : (code first : List ℕ) → ((i : ℕ) → i < x .n → getD code (8 + i) 0 ≡ getD (x .offs) i 0)
       → ((R : ℕ → ℕ → Option Cut) → Small K → stations K ≡ x .n → eventCount K ≡ x .e → Offsets K code → Rows K R (x .n) 0 starts → Slots K R first) → Begun x first K
-  laid-table code first c t = laid-begun first (t (row S₀) laid-small (laid .stationed) (laid .counted) (offsets-are x K code (laid .stationed) laid-offs c) start-rows)
+  laid-table code first c t = laid-begun first (t (row S₀) laid-small (laid .stationed) (laid .counted) (offsets-are x K code (laid .stationed) (offs-is K x starts laid) c) start-rows)
 
 -- The rounds of a pair, by the bound that holds for every way to it.
 pub looser : (e r : ℕ) → r ≤ (e + 1) * (e + 2) → r ≤ (e + 1) * (e + 5)

@@ -10,7 +10,7 @@ use lib.Dec.{leb}
 use lib.ListN.{length, drop, length-drop, drop-of-length-le}
 use Rattle.model.specs.Formula.{Formula, prefix, ahead, single, formulaOf, sound}
 use Rattle.model.specs.Size.{narrow, fits}
-use Rattle.model.specs.Rules.{asTrue}
+use Rattle.model.specs.Rules.{asTrue, workable}
 use Rattle.codec.proofs.Cases.{none-some}
 use Rattle.codec.specs.Formulas.{formulas}
 use Rattle.codec.proofs.Formulas.{formulas-none, formulas-formula, formulas-empty, formula-prefix}
@@ -18,7 +18,7 @@ use Rattle.extents.specs.declared.Figures.{Figures}
 use Rattle.extents.specs.declared.Extent.the-variants.{Wide, Narrow}
 use Rattle.atoms.specs.declared.Size.{Size}
 use Rattle.extents.specs.Extents.{figuresOf}
-use Rattle.query.specs.declared.Verdict.the-variants.{Fine, Malformed, TooLarge}
+use Rattle.query.specs.declared.Verdict.the-variants.{Fine, Malformed, TooLarge, Unworkable}
 use Rattle.query.specs.Judged.{judged}
 use Rattle.atoms.specs.Measured.{first, Sized}
 use Rattle.extents.proofs.Extents.{narrow-of, wide-of}
@@ -63,8 +63,8 @@ module _ {n : ℕ} {q : List ℕ} {z : Size} (x : Sized n true q z) where
     judged-unsound s = simp (one-formula, sym (x .sound) ∙ s)
 
     module _ (s : z .sound ≡ true) where
-      -- With sound atoms only the size is left.
-      by-size : judged n (formulaOf q) ≡ cond (leb (z .tokens) 32 && leb (z .atoms) 12 && narrow (asTrue (x .formula))) (Fine (figuresOf (asTrue (x .formula)))) TooLarge
+      -- With sound atoms the size is left, and whether each can be worked out.
+      by-size : judged n (formulaOf q) ≡ cond (leb (z .tokens) 32 && leb (z .atoms) 12 && narrow (asTrue (x .formula))) (cond (workable (asTrue (x .formula))) (Fine (figuresOf (asTrue (x .formula)))) Unworkable) TooLarge
       unfolding judged fits
       by-size = simp (one-formula, sym (x .sound) ∙ s, x .tokens, x .atoms)
 
@@ -77,17 +77,23 @@ module _ {n : ℕ} {q : List ℕ} {z : Size} (x : Sized n true q z) where
       pub judged-wide : z .tokens ≤ 32 → z .atoms ≤ 12 → z .extent ≡ Wide → TooLarge ≡ judged n (formulaOf q)
       judged-wide t a w = sym (by-size ∙ simp (le-leb _ _ t, le-leb _ _ a, wide-of (asTrue (x .formula)) (sym w ∙ x .extent)))
 
-      pub judged-fine : (g : Figures) → z .tokens ≤ 32 → z .atoms ≤ 12 → z .extent ≡ Narrow g → Fine g ≡ judged n (formulaOf q)
-      judged-fine g t a e =
-          let w = narrow-of (asTrue (x .formula)) g (sym e ∙ x .extent) in
-          ap Fine (w .figures) ∙ sym (by-size ∙ simp (le-leb _ _ t, le-leb _ _ a, w .narrow))
+      module _ (g : Figures) (t : z .tokens ≤ 32) (a : z .atoms ≤ 12) (e : z .extent ≡ Narrow g) where
+        pub judged-unworkable : z .workable ≡ false → Unworkable ≡ judged n (formulaOf q)
+        judged-unworkable w =
+            let k = narrow-of (asTrue (x .formula)) g (sym e ∙ x .extent) in
+            sym (by-size ∙ simp (le-leb _ _ t, le-leb _ _ a, k .narrow, sym (x .workable) ∙ w))
+
+        pub judged-fine : z .workable ≡ true → Fine g ≡ judged n (formulaOf q)
+        judged-fine w =
+            let k = narrow-of (asTrue (x .formula)) g (sym e ∙ x .extent) in
+            ap Fine (k .figures) ∙ sym (by-size ∙ simp (le-leb _ _ t, le-leb _ _ a, k .narrow, sym (x .workable) ∙ w))
 
 -- A FINE QUESTION
 
-module _ (n : ℕ) {q : List ℕ} (f : Formula) (e : q ≡ prefix f) (s : sound n f ≡ true) (h : fits f ≡ true) where
+module _ (n : ℕ) {q : List ℕ} (f : Formula) (e : q ≡ prefix f) (s : sound n f ≡ true) (h : fits f ≡ true) (w : workable (asTrue f) ≡ true) where
   pub judged-prefix : judged n (formulaOf q) ≡ Fine (figuresOf (asTrue f))
   unfolding judged
-  judged-prefix = simp (e, formula-prefix f, s, h)
+  judged-prefix = simp (e, formula-prefix f, s, h, w)
 
   pub figures-prefix : {g : Figures} → Fine g ≡ judged n (formulaOf q) → g ≡ figuresOf (asTrue f)
   figures-prefix v = let x = v ∙ judged-prefix in cc

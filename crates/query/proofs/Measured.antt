@@ -12,9 +12,9 @@ use lib.Seq.{drop-drop}
 use borrow.Author.Tests.{eqb-true, eqb-false}
 use Rattle.model.specs.Formula.{Formula, ahead, one, two, sign, weigh, tokens, atoms, sound}
 use Rattle.model.specs.Formula.Formula.{not}
-use Rattle.model.specs.Rules.{Normal}
+use Rattle.model.specs.Rules.{Normal, workable}
 use Rattle.lattice.specs.Signed.{normal, two as joining, modal, joinedForm, liftedForm}
-use Rattle.lattice.proofs.Signed.{normal-not, normal-two, normal-modal, weigh-two, weigh-modal, sound-two, sound-modal}
+use Rattle.lattice.proofs.Signed.{normal-not, normal-two, normal-modal, weigh-two, weigh-modal, sound-two, sound-modal, workable-two, workable-modal}
 use Rattle.codec.specs.Formulas.{formulas}
 use Rattle.codec.proofs.Atoms.{sign-none}
 use Rattle.codec.proofs.Formulas.{formulas-none, formulas-sign, one-ahead, two-ahead}
@@ -95,10 +95,11 @@ sized-one :
     → Unary n c
     → formulas (t ∷ q) ≡ one c (formulas q)
     → (x : Sized n o q z)
+    → workable (normal s (c (x .formula))) ≡ workable (normal o (x .formula))
     → i ≡ extentOf (normal s (c (x .formula)))
     → Longer z i r
     → Sized n s (t ∷ q) r
-sized-one {t = t} {q = q} {z = z} {r = r} c u k x i l =
+sized-one {t = t} {q = q} {z = z} {r = r} c u k x w i l =
     let d : drop (r .used) (t ∷ q) ≡ drop (z .used) q = rw (l .used, add-one) in
     record {
       formula = c (x .formula);
@@ -109,6 +110,7 @@ sized-one {t = t} {q = q} {z = z} {r = r} c u k x i l =
       tokens = omega (arith, u .more (x .formula));
       atoms = omega (arith, u .same (x .formula));
       sound = l .sound ∙ x .sound ∙ sym (u .sound-same (x .formula));
+      workable = l .workable ∙ x .workable ∙ sym w;
       extent = l .extent ∙ i;
     }
 
@@ -120,7 +122,9 @@ pub nothing-not : (q : List ℕ) → first (formulas q) ≡ none → first (form
 nothing-not q p = ap first (spelt-not q) ∙ one-first not (formulas q) p
 
 pub sized-not : {n : ℕ} {s : Bool} {q : List ℕ} {z r : Size} → Sized n (negated s) q z → Longer z (z .extent) r → Sized n s (2 ∷ q) r
-sized-not {n} {s} {q} x l = sized-one not (unary-not n) (spelt-not q) x (x .extent ∙ ap extentOf (sym (normal-not s (x .formula)))) l
+sized-not {n} {s} {q} x l =
+    let e = normal-not s (x .formula) in
+    sized-one not (unary-not n) (spelt-not q) x (ap workable e) (x .extent ∙ ap extentOf (sym e)) l
 
 module _ (t : ℕ) (h : 4 < t) (l : t < 7) (q : List ℕ) where
   spelt-modal : formulas (t ∷ q) ≡ one (modal (eqb t 5)) (formulas q)
@@ -136,7 +140,7 @@ module _ (t : ℕ) (h : 4 < t) (l : t < 7) (q : List ℕ) where
       → Longer z i r
       → Sized n s (t ∷ q) r
   sized-modal {n} {s} x i k =
-      sized-one (modal (eqb t 5)) (unary-modal n (eqb t 5)) spelt-modal x
+      sized-one (modal (eqb t 5)) (unary-modal n (eqb t 5)) spelt-modal x (workable-modal s (eqb t 5) (x .formula))
       (i (normal (eqb t 5) (x .formula)) (x .extent) ∙ ap extentOf (sym (normal-modal s (eqb t 5) (x .formula)))) k
 
 -- TWO OPERANDS
@@ -177,5 +181,6 @@ module _ (t : ℕ) (h : 2 < t) (l : t < 5) (q : List ℕ) where
           tokens = omega (arith, weigh-two 1 1 1 b f g);
           atoms = omega (arith, weigh-two 1 0 0 b f g);
           sound = k .sound ∙ ap₂ _&&_ (x .sound) (w .sound) ∙ sym (sound-two n b f g);
+          workable = k .workable ∙ ap₂ _&&_ (x .workable) (w .workable) ∙ sym (workable-two s b f g);
           extent = k .extent ∙ i (normal s f) (normal s g) (x .extent) (w .extent) ∙ ap extentOf (sym (normal-two s b f g));
         }

@@ -25,6 +25,7 @@ pub record Longer (z : Size) (e : Extent) (r : Size) : Type 0 where
   pub tokens : r .tokens ≡ z .tokens + 1
   pub atoms : r .atoms ≡ z .atoms
   pub sound : r .sound ≡ z .sound
+  pub workable : r .workable ≡ z .workable
   pub extent : r .extent ≡ e
 
 -- The size of two formulas under a sign, whose extent is e.
@@ -33,4 +34,5 @@ pub record Together (y z : Size) (e : Extent) (r : Size) : Type 0 where
   pub tokens : r .tokens ≡ y .tokens + z .tokens + 1
   pub atoms : r .atoms ≡ y .atoms + z .atoms
   pub sound : r .sound ≡ (y .sound && z .sound)
+  pub workable : r .workable ≡ (y .workable && z .workable)
   pub extent : r .extent ≡ e

@@ -1,19 +1,21 @@
-// Whether a question's bytes are exactly one formula, with sound atoms and its size within the limits, and the figures of such a one.
+// Whether a question's bytes are exactly one formula, with sound atoms, its size within the limits and each atom under a sign in which
+// it can be worked out, and the figures of such a one.
 use atoms::Front;
 use atoms::Size;
+use atoms::and;
 use atoms::leaf;
 use extents::Extent;
 use extents::Figures;
 use extents::join;
 use extents::lift;
 ghost use mathlib.Core.Path.{_≡_};
-ghost use mathlib.Core.Bool.{Bool, true, not, _&&_};
+ghost use mathlib.Core.Bool.{Bool, true, not};
 ghost use mathlib.Core.List.{List, _∷_};
 ghost use Prim.Native.Nat.{ℕ, _≤_, _<_};
 ghost use lib.ListN.{length, drop};
 ghost use lib.Dec.{eqb};
 ghost use Rattle.model.specs.Formula.{Formula, prefix, formulaOf, sound};
-ghost use Rattle.model.specs.Rules.{asTrue};
+ghost use Rattle.model.specs.Rules.{asTrue, workable};
 ghost use Rattle.model.specs.Size.{fits};
 ghost use Rattle.extents.specs.Extents.{figuresOf};
 ghost use Rattle.query.specs.Judged.{judged};
@@ -25,13 +27,7 @@ pub enum Verdict {
     Fine(Figures),
     Malformed,
     TooLarge,
-}
-
-// Whether both hold.
-fn and(a: bool, b: bool) -> bool
-    ensures { λ r. ⌜ r ≡ (a && b) ⌝ }
-{
-    a && b
+    Unworkable,
 }
 
 // A size with one token more in front.
@@ -44,6 +40,7 @@ fn longer(z: Size, e: Extent) -> Size
         tokens: z.tokens + 1,
         atoms: z.atoms,
         sound: z.sound,
+        workable: z.workable,
         extent: e,
     }
 }
@@ -58,6 +55,7 @@ fn together(y: Size, z: Size, e: Extent) -> Size
         tokens: y.tokens + z.tokens + 1,
         atoms: y.atoms + z.atoms,
         sound: and(y.sound, z.sound),
+        workable: and(y.workable, z.workable),
         extent: e,
     }
 }
@@ -122,11 +120,11 @@ fn measure(q: &[u8], n: usize, sign: bool) -> Front
             paired(t, sign, y, measure(cells::after(rest, k), n, sign))
         }
         5 | 6 => modal(t, sign, measure(rest, n, t == 5)),
-        0 | 1 | 7..=255 => leaf(t, rest, n),
+        0 | 1 | 7..=255 => leaf(t, rest, n, sign),
     }
 }
 
-// Whether the question is one formula, its atoms sound, and not too large; if so, its figures.
+// Whether the question is one formula, its atoms sound, not too large, and each atom can be worked out; if so, its figures.
 pub fn judge(q: &[u8], n: usize) -> Verdict
     requires { ⌜ length (now q) ≤ 99 ⌝ }
     ensures { λ r. ⌜ r ≡ judged n (formulaOf (now (q .entry))) ⌝ }
@@ -151,13 +149,16 @@ pub fn judge(q: &[u8], n: usize) -> Verdict
     let Extent::Narrow(g) = e else {
         return Verdict::TooLarge;
     };
+    if !z.workable {
+        return Verdict::Unworkable;
+    }
     Verdict::Fine(g)
 }
 
 // The figures of a question that is fine, as every question of an accepted log is. Of any other they are those of no structure.
 pub fn figures(q: &[u8], n: usize) -> Figures
     requires { ⌜ length (now q) ≤ 99 ⌝ }
-    ensures { λ r. ⌜ ((f : Formula) → now (q .entry) ≡ prefix f → sound n f ≡ true → fits f ≡ true → r ≡ figuresOf (asTrue f)) ⌝ }
+    ensures { λ r. ⌜ ((f : Formula) → now (q .entry) ≡ prefix f → sound n f ≡ true → fits f ≡ true → workable (asTrue f) ≡ true → r ≡ figuresOf (asTrue f)) ⌝ }
 {
     let v = judge(q, n);
     let Verdict::Fine(g) = v else {

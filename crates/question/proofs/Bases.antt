@@ -44,6 +44,7 @@ module _ {K : Computation} {f : Formula} {q : List ℕ} {shape : Shape} {starts 
         reads = spelt;
         known = g .named;
         slim = fits-to f (g .fitting) .2;
+        works = g .works;
         short = fits-to f (g .fitting) .0;
         cells-fit = rw cells-held at h;
         bars-fit = le-trans (barspace-fits f (g .fitting) (shape .n) (g .laid .0 .shaped .few-stations)) k;

@@ -4,6 +4,7 @@ use Prim.Native.Nat.{ℕ}
 use mathlib.Core.Bool.{true}
 use mathlib.Core.List.{List}
 use Rattle.model.specs.Formula.{Formula, prefix, sound}
+use Rattle.model.specs.Rules.{asTrue, workable}
 use Rattle.model.specs.Size.{fits}
 use Rattle.model.specs.Computation.{Computation}
 use Rattle.structure.specs.declared.Shape.{Shape}
@@ -15,3 +16,4 @@ pub record Question (K : Computation) (f : Formula) (q : List ℕ) (x : Shape) (
   pub spells : q ≡ prefix f
   pub named : sound (x .n) f ≡ true
   pub fitting : fits f ≡ true
+  pub works : workable (asTrue f) ≡ true

@@ -8,23 +8,21 @@ use mathlib.Core.List.{List, []}
 use mathlib.Core.Bool.{Bool, true, false, cond}
 use mathlib.Core.Option.{Option, none, some}
 use lib.Dec.{leb}
-use lib.ListN.{take, length, getD, drop, getD-replicate, List·getD-map}
+use lib.ListN.{length, getD, drop, getD-replicate}
 use lib.Seq.{getD-take, getD-drop}
 use borrow.Author.Tests.{eq-eqb, ne-eqb, leb-true, leb-false}
-use Rattle.model.specs.Lists.{total}
-use Rattle.model.specs.Cut.{Cut, _!_, empty, join}
+use Rattle.model.specs.Cut.{Cut, _!_, join}
 use Rattle.model.specs.Computation.{Computation, full, count, clock}
 use Rattle.model.specs.Atom.{next, upTo, raiseTo}
 use Rattle.model.specs.Structure.{build}
-use Rattle.structure.specs.Layout.{decoded, standing}
+use Rattle.structure.specs.Layout.{decoded, coded, eventRow, standing}
 use Rattle.structure.specs.declared.Shape.{Shape}
 use Rattle.structure.specs.Laid.{Laid}
-use Rattle.steps.specs.Rows.{rowAt, absent, coded, entry, eventRow, joinedRow, atomRow, Tabled, Leads}
-use Rattle.lattice.proofs.Cuts.{join-at}
-use Rattle.lattice.proofs.Sums.{total-take}
+use Rattle.steps.specs.Rows.{rowAt, absent, entry, joinedRow, atomRow, Tabled, Leads}
+use Rattle.lattice.proofs.Consistency.{join-consistent, clock-consistent}
 use Rattle.structure.proofs.Rows.{decoded-none, decoded-some}
-use Rattle.steps.proofs.Laws.{event-fits, event-later}
-use Rattle.steps.proofs.Built.{first-row, clock-row, start-there, build-empty, build-there, keep-free, no-bars}
+use Rattle.structure.proofs.Starts.{events-few, count-is, own-fit, clock-is}
+use Rattle.steps.proofs.Built.{start-consistent, build-empty, build-there, keep-free, no-bars}
 
 -- THE FIRST COUNT THAT PASSES
 
@@ -49,7 +47,7 @@ next-place p (suc m) k = go (p k) (next-place p m (suc k))
     go false (inl e) = inl e
     go false (inr (j, a, b, e)) = inr (j, omega arith, omega arith, e)
 
-pub entry-place : (p : ℕ → Bool) (m k : ℕ)
+entry-place : (p : ℕ → Bool) (m k : ℕ)
     → ((entry p m k ≡ 255) × (next p (suc m - k) k ≡ none)) ⊎ ((j : ℕ) × (j ≤ m) × (entry p m k ≡ j) × (next p (suc m - k) k ≡ some j))
 unfolding entry coded
 entry-place p m k = go (next-place p (suc m - k) k)
@@ -57,6 +55,13 @@ entry-place p m k = go (next-place p (suc m - k) k)
     go : Place p (suc m - k) k → ((coded (next p (suc m - k) k) ≡ 255) × (next p (suc m - k) k ≡ none)) ⊎ ((j : ℕ) × (j ≤ m) × (coded (next p (suc m - k) k) ≡ j) × (next p (suc m - k) k ≡ some j))
     go (inl e) = inl (ap coded e, e)
     go (inr (j, a, b, e)) = inr (j, omega arith, ap coded e, e)
+
+entry-within : (p : ℕ → Bool) (m k j : ℕ) → next p (suc m - k) k ≡ some j → j ≤ m
+entry-within p m k j e = go (entry-place p m k)
+  where
+    go : ((entry p m k ≡ 255) × (next p (suc m - k) k ≡ none)) ⊎ ((i : ℕ) × (i ≤ m) × (entry p m k ≡ i) × (next p (suc m - k) k ≡ some i)) → j ≤ m
+    go (inl (f, g)) = let z : _≡_ {A = ℕ} 0 1 = cc in absurd (omega arith)
+    go (inr (i, f, g, r)) = let z : i ≡ j = cc in omega arith
 
 -- COUNTS
 
@@ -68,22 +73,17 @@ not-both x y f g h = go (leb x y) refl
     go false q = let a = leb-false x y q in f (omega arith)
 
 module _ (K : Computation) (shape : Shape) (starts : List ℕ) (laid : Laid K shape starts) (s : ℕ) (h : s < shape .n) where
-  -- The events of all stations before s.
-  pub offs-is : getD (shape .offs) s 0 ≡ total (take s (full K))
-  offs-is = laid .shaped .offs-are s h ∙ ap (λ (c : List ℕ). total (take s c)) (laid .counts-are)
-
-  pub count-is : getD (shape .counts) s 0 ≡ count K s
-  count-is = sym (getD-take (shape .n) (shape .counts) s 0 h) ∙ ap (λ (l : List ℕ). getD l s 0) (laid .counts-are) ∙ List·getD-map length (K .events) s []
-
-  pub own-fit : getD (shape .offs) s 0 + getD (shape .counts) s 0 ≤ shape .e
-  own-fit =
-      omega (arith, total-take (full K) s, offs-is, laid .counted, sym (getD-take (shape .n) (shape .counts) s 0 h) ∙ ap (λ (l : List ℕ). getD l s 0) (laid .counts-are))
-
-  event-row-is : (j : ℕ) → j ≤ count K s → rowAt (shape .n) (eventRow (getD (shape .offs) s 0) j) starts ≡ clock K s j
-  unfolding eventRow clock
-  event-row-is zero a = first-row K shape starts laid ∙ ap empty (sym (laid .stationed))
-  event-row-is (suc j) a =
-      ap (λ (x : ℕ). rowAt (shape .n) x starts) (event-later (getD (shape .offs) s 0) (suc j) (omega arith)) ∙ ap (λ (x : ℕ). rowAt (shape .n) (x + suc j) starts) offs-is ∙ clock-row K shape starts laid s (suc j) a (omega arith)
+  -- The row of a start whose table names event k of s, or none, is that start joined with the event's clock.
+  pub row-leads : (i : ℕ) → i ≤ shape .e → (o : Option ℕ) → ((k : ℕ) → o ≡ some k → k ≤ count K s) → (t : ℕ) → t ≡ coded o
+      → decoded (joinedRow (shape .n) (getD (shape .offs) s 0) starts i t) ≡ upTo K s (rowAt (shape .n) i starts) o
+  unfolding coded joinedRow upTo
+  row-leads i a none f t e = rw (eq-eqb t 255 e) (decoded-none (absent (shape .n)) (getD-replicate (shape .n) 0 255 0 (laid .shaped .some-station)))
+  row-leads i a (some k) f t e =
+      let c : Cut = rowAt (shape .n) i starts in
+      let l : k ≤ count K s = f k refl in
+      let d : rowAt (shape .n) (eventRow (getD (shape .offs) s 0) k) starts ≡ clock K s k = clock-is K shape starts laid s h k l in
+      let g = join-consistent K (laid .valid) c (clock K s k) (start-consistent K shape starts laid i a) (clock-consistent K (laid .valid) s k l) in
+      rw (e, ne-eqb k 255 (λ m. omega (arith, events-few K shape starts laid s)), d) (decoded-some (join c (clock K s k)) (λ m. omega (arith, g .within 0, events-few K shape starts laid 0)))
 
   -- A test p of the station's events, and q the same of what stands in the tables.
   module _ (p q : ℕ → Bool) (same : (j : ℕ) → j ≤ getD (shape .counts) s 0 → p j ≡ q j) (table : List ℕ)
@@ -93,9 +93,9 @@ module _ (K : Computation) (shape : Shape) (starts : List ℕ) (laid : Laid K sh
       station = h;
       few-stations = laid .shaped .few-stations;
       few-events = laid .shaped .few-events;
-      before = omega (arith, own-fit);
+      before = omega (arith, own-fit K shape starts laid s h);
       starts-fit = laid .starts-fit;
-      reach = λ k a f. ⊎-elim (λ r. absurd (f (tab k a ∙ r .0))) (λ r. omega (arith, tab k a, r .1, r .2, own-fit)) (entry-place q (getD (shape .counts) s 0) k);
+      reach = λ k a f. ⊎-elim (λ r. absurd (f (tab k a ∙ r .0))) (λ r. omega (arith, tab k a, r .1, r .2, own-fit K shape starts laid s h)) (entry-place q (getD (shape .counts) s 0) k);
     }
 
     raise-is : (i : ℕ) → raiseTo K s p (rowAt (shape .n) i starts)
@@ -103,35 +103,16 @@ module _ (K : Computation) (shape : Shape) (starts : List ℕ) (laid : Laid K sh
     unfolding raiseTo
     raise-is i =
         let x : rowAt (shape .n) i starts ! s ≡ getD starts (i * shape .n + s) 0 = getD-take (shape .n) (drop (i * shape .n) starts) s 0 h ∙ getD-drop (i * shape .n) starts s 0 in
-        ap₂ (λ (y z : ℕ). upTo K s (rowAt (shape .n) i starts) (next p (suc z - y) y)) x (sym count-is)
+        ap₂ (λ (y z : ℕ). upTo K s (rowAt (shape .n) i starts) (next p (suc z - y) y)) x (sym (count-is K shape starts laid s h))
         ∙ ap (upTo K s (rowAt (shape .n) i starts))
         (next-same p q (suc (getD (shape .counts) s 0) - getD starts (i * shape .n + s) 0) (getD starts (i * shape .n + s) 0) (λ j u v. same j (omega arith)))
 
     pub leads : ((i : ℕ) → getD starts (i * shape .n + s) 0 < 256) → Leads (shape .n) (shape .e) s (getD (shape .offs) s 0) table starts (raiseTo K s p)
-    unfolding atomRow joinedRow upTo
-    leads byte i a = go (entry-place q (getD (shape .counts) s 0) x)
-      where
-        x : ℕ
-        x = getD starts (i * shape .n + s) 0
-
-        c : Cut
-        c = rowAt (shape .n) i starts
-
-        u : x < 256
-        u = byte i
-
-        go : ((entry q (getD (shape .counts) s 0) x ≡ 255) × (next q (suc (getD (shape .counts) s 0) - x) x ≡ none)) ⊎ ((j : ℕ) × (j ≤ getD (shape .counts) s 0) × (entry q (getD (shape .counts) s 0) x ≡ j) × (next q (suc (getD (shape .counts) s 0) - x) x ≡ some j))
-            → decoded (joinedRow (shape .n) (getD (shape .offs) s 0) starts i (getD table x 0)) ≡ raiseTo K s p c
-        go (inl (f, g)) =
-            rw (raise-is i, g, eq-eqb (getD table x 0) 255 (tab x u ∙ f)) (decoded-none (absent (shape .n)) (getD-replicate (shape .n) 0 255 0 (laid .shaped .some-station)))
-        go (inr (j, f, g, r)) =
-            let t : getD table x 0 ≡ j = tab x u ∙ g in
-            let z : j ≡ 255 → ⊥ = λ m. omega (arith, own-fit, laid .shaped .few-events) in
-            let d : rowAt (shape .n) (eventRow (getD (shape .offs) s 0) j) starts ≡ clock K s j = event-row-is j (omega (arith, count-is)) in
-            let y : eventRow (getD (shape .offs) s 0) j ≤ shape .e = omega (arith, event-fits (getD (shape .offs) s 0) j, own-fit) in
-            let v : getD (join c (clock K s j)) 0 0 ≡ 255 → ⊥ =
-            λ m. not-both _ _ (start-there K shape starts laid i a) (λ w. start-there K shape starts laid (eventRow (getD (shape .offs) s 0) j) y (ap (λ (l : List ℕ). getD l 0 0) d ∙ w)) (sym (join-at c (clock K s j) 0) ∙ m) in
-            rw (raise-is i, r, t, ne-eqb j 255 z, d) (decoded-some (join c (clock K s j)) v)
+    unfolding atomRow entry
+    leads byte i a =
+        let x : ℕ = getD starts (i * shape .n + s) 0 in
+        row-leads i a (next q (suc (getD (shape .counts) s 0) - x) x) (λ k e. omega (arith, entry-within q (getD (shape .counts) s 0) x k e, count-is K shape starts laid s h)) (getD table x 0) (tab x (byte i))
+        ∙ sym (raise-is i)
 
 -- THE STRUCTURE
 

@@ -12,12 +12,14 @@ use lib.Seq.{getD-take}
 use borrow.Author.Tests.{eq-eqb, ltb-true, ltb-false}
 use Rattle.model.specs.Lists.{sum, total}
 use Rattle.model.specs.Cut.{Cut, empty, insideAny}
-use Rattle.model.specs.Computation.{Computation, Event, stations, full, count, noEvent, clock}
+use Rattle.model.specs.Computation.{Computation, Event, Consistent, stations, full, count, noEvent, clock}
 use Rattle.model.specs.Structure.{keep, build, buildOn}
 use Rattle.structure.specs.Layout.{decoded, rowsAt, stationsAt, barsAt}
 use Rattle.structure.specs.declared.Shape.{Shape}
 use Rattle.structure.specs.Laid.{Laid}
+use Rattle.lattice.proofs.Consistency.{clock-consistent}
 use Rattle.structure.proofs.Rows.{decoded-none, decoded-some, decoded-is}
+use Rattle.structure.proofs.Starts.{events-few}
 use Rattle.steps.specs.Rows.{rowAt}
 use Rattle.steps.proofs.Parts.{row-zero, row-suc, row-skip}
 
@@ -45,32 +47,23 @@ module _ (n : ℕ) where
   row-there (v ∷ l) w e zero h = ap decoded (row-zero n w) ∙ head-of e
   row-there (v ∷ l) w e (suc i) h = ap decoded (row-suc n i w) ∙ row-there l (drop n w) (tail-of e) i (le-of-suc-le-suc h)
 
-  pub clock-there : (ls : List (List Event)) (w : List ℕ) → stationsAt n (map length ls) w ≡ map clocks ls → (s k : ℕ) → k < length (getD ls s [])
-      → decoded (rowAt n (total (take s (map length ls)) + k) w) ≡ some ((getD (getD ls s []) k noEvent) .clock)
-  unfolding stationsAt sum
-  clock-there [] w e s k h = absurd (not-suc-le-zero h)
-  clock-there (l ∷ ls) w e zero k h =
-      let z : 0 + k ≡ k = omega arith in
-      ap (λ (x : ℕ). decoded (rowAt n x w)) z ∙ row-there l w (head-of e) k h
-  clock-there (l ∷ ls) w e (suc s) k h =
-      let t : ℕ = total (take s (map length ls)) in
-      let z : length l + t + k ≡ length l + (t + k) = omega arith in
-      ap (λ (x : ℕ). decoded (rowAt n x w)) z ∙ ap decoded (row-skip n (length l) (t + k) w) ∙ clock-there ls (drop (length l * n) w) (tail-of e) s k h
-
-  pub each-there : (ls : List (List Event)) (w : List ℕ) → stationsAt n (map length ls) w ≡ map clocks ls → (i : ℕ) → i < total (map length ls)
-      → (c : Cut) × (decoded (rowAt n i w) ≡ some c)
+  -- Row i is the clock of an event.
+  each-there : (ls : List (List Event)) (w : List ℕ) → stationsAt n (map length ls) w ≡ map clocks ls → (i : ℕ) → i < total (map length ls)
+      → (s k : ℕ) × (k < length (getD ls s [])) × (decoded (rowAt n i w) ≡ some ((getD (getD ls s []) k noEvent) .clock))
   unfolding stationsAt sum
   each-there [] w e i h = absurd (not-suc-le-zero h)
   each-there (l ∷ ls) w e i h = go (ltb i (length l)) refl (each-there ls (drop (length l * n) w) (tail-of e) (i - length l))
     where
-      go : (b : Bool) → ltb i (length l) ≡ b → (i - length l < total (map length ls) → (c : Cut) × (decoded (rowAt n (i - length l) (drop (length l * n) w)) ≡ some c))
-          → (c : Cut) × (decoded (rowAt n i w) ≡ some c)
-      go true q r = ((getD l i noEvent) .clock, row-there l w (head-of e) i (ltb-true i (length l) q))
+      Event-of : List (List Event) → ℕ → List ℕ → Type 0
+      Event-of r q v = (s k : ℕ) × (k < length (getD r s [])) × (decoded (rowAt n q v) ≡ some ((getD (getD r s []) k noEvent) .clock))
+
+      go : (b : Bool) → ltb i (length l) ≡ b → (i - length l < total (map length ls) → Event-of ls (i - length l) (drop (length l * n) w)) → Event-of (l ∷ ls) i w
+      go true q r = (0, i, ltb-true i (length l) q, row-there l w (head-of e) i (ltb-true i (length l) q))
       go false q r =
           let a : length l ≤ i = ltb-false i (length l) q in
           let z : i ≡ length l + (i - length l) = omega arith in
           let g = r (omega arith) in
-          (g .0, ap (λ (x : ℕ). decoded (rowAt n x w)) z ∙ ap decoded (row-skip n (length l) (i - length l) w) ∙ g .1)
+          (suc (g .0), g .1, g .2, ap (λ (x : ℕ). decoded (rowAt n x w)) z ∙ ap decoded (row-skip n (length l) (i - length l) w) ∙ g .3)
 
   module _ (f : Cut → Option Cut) where
     rows-built : (l : List Event) (v w : List ℕ) → rowsAt n (length l) v ≡ clocks l
@@ -103,24 +96,20 @@ module _ (K : Computation) (shape : Shape) (starts : List ℕ) (laid : Laid K sh
   pub later-rows : stationsAt (shape .n) (full K) (drop (shape .n) starts) ≡ map clocks (K .events)
   later-rows = laid .starts-rows
 
-  -- The clock of event k of station s, where the code finds it.
-  pub clock-row : (s k : ℕ) → k ≤ count K s → 0 < k → rowAt (shape .n) (total (take s (full K)) + k) starts ≡ clock K s k
+  -- Each start is the clock of an event, or the empty cut.
+  start-is : (i : ℕ) → i ≤ shape .e → (s k : ℕ) × (k ≤ count K s) × (rowAt (shape .n) i starts ≡ clock K s k)
   unfolding clock
-  clock-row s zero h p = absurd (not-suc-le-zero p)
-  clock-row s (suc k) h p =
-      let t : ℕ = total (take s (full K)) in
-      let z : t + suc k ≡ suc (t + k) = omega arith in
-      ap (λ (x : ℕ). rowAt (shape .n) x starts) z ∙ row-suc (shape .n) (t + k) starts
-      ∙ decoded-is _ _ (clock-there (shape .n) (K .events) (drop (shape .n) starts) later-rows s k h)
+  start-is zero h = (0, 0, omega arith, first-row ∙ ap empty (sym (laid .stationed)))
+  start-is (suc i) h =
+      let r = each-there (shape .n) (K .events) (drop (shape .n) starts) later-rows i (omega (arith, laid .counted)) in
+      (r .0, suc (r .1), r .2, row-suc (shape .n) i starts ∙ decoded-is _ _ (r .3))
+
+  pub start-consistent : (i : ℕ) → i ≤ shape .e → Consistent K (rowAt (shape .n) i starts)
+  start-consistent i h = let r = start-is i h in rw (r .3) (clock-consistent K (laid .valid) (r .0) (r .1) (r .2))
 
   -- The first cell of no start is 255.
   pub start-there : (i : ℕ) → i ≤ shape .e → getD (rowAt (shape .n) i starts) 0 0 ≡ 255 → ⊥
-  start-there zero h f =
-      let z : _≡_ {A = ℕ} 0 255 = sym (lib.ListN.getD-replicate (shape .n) 0 0 0 (laid .shaped .some-station)) ∙ ap (λ (x : List ℕ). getD x 0 0) (sym first-row) ∙ f in
-      omega arith
-  start-there (suc i) h f =
-      let r = each-there (shape .n) (K .events) (drop (shape .n) starts) later-rows i (omega (arith, laid .counted)) in
-      first-there (rowAt (shape .n) i (drop (shape .n) starts)) (r .0) (r .1) (ap (λ (x : List ℕ). getD x 0 0) (sym (row-suc (shape .n) i starts)) ∙ f)
+  start-there i h f = omega (arith, f, start-consistent i h .within 0, events-few K shape starts laid 0)
 
   module _ (f : Cut → Option Cut) (w : List ℕ) (rows : (i : ℕ) → i ≤ shape .e → decoded (rowAt (shape .n) i w) ≡ f (rowAt (shape .n) i starts)) where
     least-is : f (empty (stations K)) ≡ decoded (take (shape .n) w)

@@ -5,7 +5,7 @@ use native.Mathlib.Omega.{arith}
 use native.Mathlib.Nat.{mul-le-mul-right}
 use native.Mathlib.Numerals.{add-one}
 use mathlib.Core.List.{List, _∷_}
-use mathlib.Core.Bool.{Bool, true, false, cond}
+use mathlib.Core.Bool.{Bool, true, false}
 use lib.Dec.{eqb}
 use lib.ListN.{length, getD, take, drop, set, replicate, length-drop, length-replicate, getD-replicate}
 use lib.Seq.{length-take-le, take-all, take-take, getD-take, getD-drop, getD-set-same, getD-set-other, paste}
@@ -15,7 +15,9 @@ use Rattle.model.specs.Atom.{next}
 use Rattle.lattice.proofs.Cuts.{length-join, join-at}
 use Rattle.cells.proofs.Cuts.{take-join}
 use Rattle.cells.proofs.Parts.{paste-front, paste-part}
-use Rattle.steps.specs.Rows.{rowAt, absent, coded, entry, eventRow, joinedRow, atomRow, Tabled}
+use Rattle.structure.specs.Layout.{coded, eventRow}
+use Rattle.structure.proofs.Starts.{event-fits}
+use Rattle.steps.specs.Rows.{rowAt, absent, entry, joinedRow, atomRow, Tabled}
 use Rattle.steps.proofs.Parts.{rows-next}
 
 -- JOINS
@@ -78,18 +80,6 @@ pub table-start : (j : ℕ) → j < 256 → _≡_ {A = ℕ} (getD (replicate 256
 table-start j h = getD-replicate 256 j 255 0 h
 
 -- ATOMS
-
-pub event-fits : (off k : ℕ) → eventRow off k ≤ off + k
-unfolding eventRow
-event-fits off k = go (eqb k 0)
-  where
-    go : (b : Bool) → cond b 0 (off + k) ≤ off + k
-    go true = omega arith
-    go false = omega arith
-
-pub event-later : (off k : ℕ) → 0 < k → eventRow off k ≡ off + k
-unfolding eventRow
-event-later off k h = rw (ne-eqb k 0 (λ e. omega arith))
 
 -- What a row comes to where w cells were written for it, n or more.
 module _ (n w i : ℕ) (h : n ≤ w) (d d₂ : List ℕ) (room : i * n + w ≤ length d) where

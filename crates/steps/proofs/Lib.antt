@@ -3,3 +3,4 @@ pub mod Parts
 pub mod Built
 pub mod Atoms
 pub mod Ranges
+pub mod Arrivals

@@ -3,13 +3,13 @@ use Prim.Native.Nat.{ℕ, suc, _+_, _-_, _*_, _≤_, _<_}
 use mathlib.Core.Path.{_≡_}
 use mathlib.Core.Bool.{Bool, cond}
 use mathlib.Core.List.{List}
-use mathlib.Core.Option.{Option, none, some}
+use mathlib.Core.Option.{Option}
 use lib.Dec.{eqb}
 use lib.ListN.{getD, take, drop, replicate}
 use Rattle.model.specs.Limits.{limits}
 use Rattle.model.specs.Cut.{Cut, inside, join}
 use Rattle.model.specs.Atom.{next}
-use Rattle.structure.specs.Layout.{decoded}
+use Rattle.structure.specs.Layout.{decoded, coded, eventRow}
 
 -- Row i: the n cells from i * n on.
 abbrev pub rowAt : ℕ → ℕ → List ℕ → List ℕ
@@ -19,24 +19,15 @@ rowAt n i ws = take n (drop (i * n) ws)
 abbrev pub absent : ℕ → List ℕ
 absent n = replicate n 255
 
--- A count or none, in a byte.
-unfoldable pub coded : Option ℕ → ℕ
-coded none = 255
-coded (some k) = k
-
 -- Entry k of a station's table: the first count from k on that passes the test, of count events.
 unfoldable pub entry : (ℕ → Bool) → ℕ → ℕ → ℕ
 entry p count k = coded (next p (suc count - k) k)
-
--- The row of event k of a station that off events stand before; at 0 the row of the empty cut.
-unfoldable pub eventRow : ℕ → ℕ → ℕ
-eventRow off k = cond (eqb k 0) 0 (off + k)
 
 -- A start joined with the clock of event k, or none.
 unfoldable pub joinedRow : ℕ → ℕ → List ℕ → ℕ → ℕ → List ℕ
 joinedRow n off starts i k = cond (eqb k 255) (absent n) (join (rowAt n i starts) (rowAt n (eventRow off k) starts))
 
--- Row i of an atom of station s.
+-- Row i of an atom whose table goes by the counts of station s.
 unfoldable pub atomRow : ℕ → ℕ → ℕ → List ℕ → List ℕ → ℕ → List ℕ
 atomRow n s off table starts i = joinedRow n off starts i (getD table (getD starts (i * n + s) 0) 0)
 
@@ -44,7 +35,7 @@ atomRow n s off table starts i = joinedRow n off starts i (getD table (getD star
 unfoldable pub belowRow : ℕ → List ℕ → List ℕ → ℕ → List ℕ
 belowRow n g starts i = cond (inside (rowAt n i starts) g) (rowAt n i starts) (absent n)
 
--- A table that leads to rows that stand there: the station s, off events before its own.
+-- A table that leads to rows that stand there: it goes by the counts of station s, and names events of a station that off events stand before.
 pub record Tabled (n e s off : ℕ) (table : List ℕ) (m : ℕ) : Type 0 where
   pub station : s < n
   pub few-stations : n ≤ limits .stations

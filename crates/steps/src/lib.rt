@@ -4,7 +4,9 @@ use cells::copy;
 use cells::fill;
 use cells::larger;
 use structure::Shape;
+use structure::event_row;
 ghost use mathlib.Core.Path.{_≡_};
+ghost use mathlib.Core.Bool.{true};
 ghost use mathlib.Core.List.{[]};
 ghost use mathlib.Core.Option.{Option};
 ghost use Prim.Native.Nat.{ℕ, _+_, _*_, _≤_, _<_};
@@ -15,10 +17,10 @@ ghost use Rattle.model.specs.Cut.{Cut, join};
 ghost use Rattle.model.specs.Computation.{Computation, full};
 ghost use Rattle.model.specs.Structure.{build};
 ghost use Rattle.model.specs.Atom.{passes, raiseAtom};
-ghost use Rattle.model.specs.Atom.Atom.{inRange};
-ghost use Rattle.structure.specs.Layout.{standing};
+ghost use Rattle.model.specs.Atom.Atom.{inRange, clear};
+ghost use Rattle.structure.specs.Layout.{eventRow, standing};
 ghost use Rattle.structure.specs.Laid.{Laid, Facts};
-ghost use Rattle.steps.specs.Rows.{rowAt, entry, eventRow, joinedRow, atomRow, Tabled, Leads, Ended};
+ghost use Rattle.steps.specs.Rows.{rowAt, entry, joinedRow, atomRow, Tabled, Leads, Ended};
 
 // A station and a range of its values, ends included; through zero where lo is above hi.
 pub struct Interval {
@@ -85,14 +87,6 @@ fn fill_table(
         }
         table[k] = last;
     }
-}
-
-// The row of event k of a station that off events stand before.
-fn event_row(off: usize, k: u8) -> usize
-    requires { ⌜ off ≤ limits .events ⌝ }
-    ensures { λ r. ⌜ r ≡ eventRow off k ⌝ }
-{
-    if k == 0 { 0 } else { off + k as usize }
 }
 
 // How many cells are written for a row: eight where there are as many from the last row on, so that each row is one operation.
@@ -194,4 +188,26 @@ pub fn range(
         r.hi,
     );
     atom(ws, bs, x, s, off, &table, starts)
+}
+
+// 07: its table says by which event of the receiver all is received that the sender has sent.
+pub fn clear(
+    ws: &mut [u8],
+    bs: &mut [u8],
+    x: Shape,
+    starts: &[u8],
+    facts: &[u16],
+    i: usize,
+    j: usize,
+) -> usize
+    requires { ⌜ ((K : Computation) × Laid K x (now starts) × Facts K x (now facts)) ⌝ }
+    requires { ⌜ (i < x .n) × (j < x .n) × ((x .e + 1) * x .n ≤ length (now ws)) × (16 * x .n ≤ length (now bs)) ⌝ }
+    ensures { λ c. ⌜ (c ≤ 1) × (0 < c → getD (now (ws .exit)) 0 0 ≡ 255 → ⊥)
+        × ((K : Computation) → Laid K x (now (starts .entry)) → Facts K x (now (facts .entry))
+        → standing (x .n) (full K) c (now (ws .exit)) (now (bs .exit)) ≡ build K (raiseAtom K true (clear i j)) []) ⌝ }
+{
+    let offs = x.offs;
+    let mut table = [0u8; 256];
+    arrivals::fill(&mut table, x, starts, facts, i, j);
+    atom(ws, bs, x, i, offs[j] as usize, &table, starts)
 }

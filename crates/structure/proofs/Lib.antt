@@ -6,3 +6,4 @@ pub mod Bars
 pub mod Listed
 pub mod Standing
 pub mod Marks
+pub mod Starts

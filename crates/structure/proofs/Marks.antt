@@ -13,8 +13,7 @@ use borrow.Author.Tests.{ltb-true, ltb-false}
 use Rattle.model.specs.Computation.{Computation}
 use Rattle.model.specs.Structure.{Structure}
 use Rattle.lattice.specs.OfStation.{OfOwnRows}
-use Rattle.lattice.proofs.Lists.{All}
-use Rattle.lattice.proofs.Lists.All.{also}
+use Rattle.lattice.proofs.Lists.{All, all-elem}
 use Rattle.cells.proofs.Parts.{paste-part, paste-other}
 use Rattle.structure.specs.Layout.{structureAt, standing, cells, barCells}
 use Rattle.structure.specs.Marks.{Mark, Marked, Within}
@@ -34,11 +33,6 @@ pub none-within : (n m : ℕ) → Within n (replicate m 0)
 none-within n m i = omega (arith, no-mark m i)
 
 -- ONE STATION
-
-all-elem : {G : Structure → Type 0} (L : List Structure) → All G L → (i : ℕ) (A : Structure) → getElem? L i ≡ some A → G A
-all-elem [] a i A e = let z : _≡_ {A = ℕ} 0 1 = cc in absurd (omega arith)
-all-elem {G} (S ∷ L) (also p a) zero A e = let q : S ≡ A = cc in subst G q p
-all-elem (S ∷ L) (also p a) (suc i) A e = all-elem L a i A e
 
 one-mark : (s m i : ℕ) → (getD (suc s ∷ replicate m 0) i 0 ≡ suc s) ⊎ (getD (suc s ∷ replicate m 0) i 0 ≡ 0)
 one-mark s m zero = inl refl

@@ -3,10 +3,11 @@ use mathlib.Core.Path.{_≡_}
 use Prim.Native.Nat.{ℕ, _+_, _*_, _≤_, _<_}
 use mathlib.Core.List.{List, map}
 use mathlib.Core.Option.{some}
-use lib.ListN.{length, getD, take, drop}
+use lib.ListN.{length, getD, getElem?, take, drop}
+use Rattle.model.specs.Limits.{limits, valuesSize, factsSize}
 use Rattle.model.specs.Lists.{total}
 use Rattle.model.specs.Cut.{empty}
-use Rattle.model.specs.Computation.{Computation, Event, stations, count, full, eventCount, value}
+use Rattle.model.specs.Computation.{Computation, Event, Message, stations, count, full, eventCount, value}
 use Rattle.lattice.proofs.Valid.{Valid}
 use Rattle.structure.specs.declared.Shape.{Shape}
 use Rattle.structure.specs.Layout.{stationsAt}
@@ -23,10 +24,29 @@ pub record Laid (K : Computation) (x : Shape) (starts : List ℕ) : Type 0 where
   pub starts-least : take (x .n) starts ≡ empty (x .n)
   pub starts-rows : stationsAt (x .n) (full K) (drop (x .n) starts) ≡ map (map (λ (v : Event). some (v .clock))) (K .events)
 
--- What atoms look at: each station's first value and those of its events, station by station.
+-- Sender and receiver in one number.
+abbrev pub pairOf : ℕ → ℕ → ℕ
+pairOf i j = 256 * i + j
+
+-- Where message q stands in the facts: behind the values and the number of messages.
+abbrev pub messageAt : ℕ → ℕ
+messageAt q = valuesSize + 1 + 3 * q
+
+-- The message m stands at a place of the facts: its pair, the event that sends it, the event that receives it.
+pub record Filed (m : Message) (facts : List ℕ) (at : ℕ) : Type 0 where
+  pub pair : getD facts at 0 ≡ pairOf (m .sender) (m .receiver)
+  pub sent : getD facts (at + 1) 0 ≡ m .sent
+  pub received : getD facts (at + 2) 0 ≡ m .received
+  pub low : m .receiver < 256
+  pub sent-low : m .sent < 256
+
+-- What atoms look at: each station's first value and those of its events, station by station; the number of messages, and each message.
 pub record Facts (K : Computation) (x : Shape) (facts : List ℕ) : Type 0 where
-  pub values-fit : x .e + x .n ≤ length facts
+  pub facts-fit : factsSize ≤ length facts
   pub values-are : (j k : ℕ) → j < x .n → k ≤ count K j → getD facts (total (take j (full K)) + j + k) 0 ≡ value K j k
+  pub few-messages : length (K .messages) ≤ limits .messages
+  pub messages-counted : getD facts valuesSize 0 ≡ length (K .messages)
+  pub messages-are : (q : ℕ) (m : Message) → getElem? (K .messages) q ≡ some m → Filed m facts (messageAt q)
 
 -- K is laid out, with what its atoms look at.
 abbrev pub Given : Computation → Shape → List ℕ → List ℕ → Type 0

@@ -1,5 +1,5 @@
 -- How structures stand in a workspace and a bar space: n cells for the least cut and n for each event, station by station.
-use Prim.Native.Nat.{ℕ, zero, suc, _*_}
+use Prim.Native.Nat.{ℕ, zero, suc, _+_, _*_}
 use mathlib.Core.Bool.{cond}
 use mathlib.Core.List.{List, [], _∷_}
 use mathlib.Core.Option.{Option, none, some}
@@ -12,6 +12,15 @@ use Rattle.model.specs.Structure.{Structure}
 -- What the n cells of a row say: a cut, or none where the first is 255.
 unfoldable pub decoded : List ℕ → Option Cut
 decoded cells = cond (eqb (getD cells 0 0) 255) none (some cells)
+
+-- A count or none, in a byte.
+unfoldable pub coded : Option ℕ → ℕ
+coded none = 255
+coded (some k) = k
+
+-- The row of event k of a station that off events stand before; at 0 the row of the empty cut.
+unfoldable pub eventRow : ℕ → ℕ → ℕ
+eventRow off k = cond (eqb k 0) 0 (off + k)
 
 -- m rows at the front of ws.
 unfoldable pub rowsAt : ℕ → ℕ → List ℕ → List (Option Cut)

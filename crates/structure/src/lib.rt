@@ -8,9 +8,10 @@ ghost use mathlib.Core.Path.{_≡_};
 ghost use mathlib.Core.List.{List};
 ghost use Prim.Native.Nat.{ℕ, _+_, _*_, _≤_, _<_};
 ghost use lib.ListN.{length, getD, take, drop};
+ghost use Rattle.model.specs.Limits.{limits};
 ghost use Rattle.model.specs.Cut.{insideAny};
 ghost use Rattle.model.specs.Structure.{raise, belongs};
-ghost use Rattle.structure.specs.Layout.{decoded, barsAt, placed};
+ghost use Rattle.structure.specs.Layout.{decoded, eventRow, barsAt, placed};
 ghost use Rattle.structure.specs.Shaped.{Shaped};
 ghost use Rattle.structure.specs.Added.{Added};
 
@@ -26,6 +27,14 @@ pub struct Shape {
 pub struct Sets {
     pub count: usize,
     pub stations: [u8; 16],
+}
+
+// The row of event k of a station that off events stand before; at 0 the row of the empty cut.
+pub fn event_row(off: usize, k: u8) -> usize
+    requires { ⌜ off ≤ limits .events ⌝ }
+    ensures { λ r. ⌜ r ≡ eventRow off k ⌝ }
+{
+    if k == 0 { 0 } else { off + k as usize }
 }
 
 // The row of the last event that a cut has of station j is joined; none is where the first byte comes to 255.

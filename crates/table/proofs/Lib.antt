@@ -2,3 +2,4 @@ pub mod Parts
 pub mod Slots
 pub mod Clocks
 pub mod Openings
+pub mod Messages

@@ -1,11 +1,12 @@
--- The store: what is read of a log. Its first section, and today the only one, is the event table: a slot for each event of each station, its value in two bytes, high byte first, and then its clock.
+-- The store: what is read of a log. Its first section is the event table: a slot for each event of each station, its value in two bytes, high byte first, and then its clock. Behind it stand the messages, four bytes each.
 use mathlib.Core.Path.{_≡_}
 use Prim.Native.Nat.{ℕ, _+_, _*_, _≤_, _<_}
-use mathlib.Core.List.{List}
-use lib.ListN.{getD, take, drop}
-use Rattle.model.specs.Limits.{limits, slotSize}
+use mathlib.Core.List.{List, [], _∷_}
+use mathlib.Core.Option.{some}
+use lib.ListN.{getD, getElem?, take, drop}
+use Rattle.model.specs.Limits.{limits, slotSize, tableSize, messageSize}
 use Rattle.model.specs.Frames.{word}
-use Rattle.model.specs.Computation.{Computation, stations, count, clock, value}
+use Rattle.model.specs.Computation.{Computation, Message, stations, count, clock, value}
 
 -- The slots before that of event k of station j; at k = 0 stand the first value and the empty clock.
 abbrev pub slotsBefore : ℕ → ℕ → ℕ
@@ -25,3 +26,15 @@ pub record Stored (K : Computation) (n : ℕ) (counts t : List ℕ) : Type 0 whe
   pub size : stations K ≡ n
   pub each : (j : ℕ) → getD counts j 0 ≡ count K j
   pub table : Table K t
+
+-- Where message q stands in the store.
+abbrev pub messageSlot : ℕ → ℕ
+messageSlot q = tableSize + q * messageSize
+
+-- The bytes of a message.
+abbrev pub messageBytes : Message → List ℕ
+messageBytes m = m .sender ∷ m .sent ∷ m .receiver ∷ m .received ∷ []
+
+-- The store t holds the messages of K.
+pub record Posted (K : Computation) (t : List ℕ) : Type 0 where
+  pub at : (q : ℕ) (m : Message) → getElem? (K .messages) q ≡ some m → take messageSize (drop (messageSlot q) t) ≡ messageBytes m

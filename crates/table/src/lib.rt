@@ -1,12 +1,13 @@
-// The event table, the first section of the store: where its slots stand, the first of each station, and the rule for clocks.
+// The store: where the slots of its event table stand, the first of each station, and where its messages do; the rules for clocks and for messages.
 pub mod clock;
+pub mod message;
 
 ghost use mathlib.Core.Path.{_≡_};
 ghost use Prim.Native.Nat.{_+_, _*_, _≤_, _<_};
 ghost use lib.ListN.{length};
-ghost use Rattle.model.specs.Limits.{limits, slotSize, tableSize, storeSize};
+ghost use Rattle.model.specs.Limits.{limits, slotSize, tableSize, messageSize, storeSize};
 ghost use Rattle.cells.specs.Put.{putOf};
-ghost use Rattle.table.specs.Table.{slot};
+ghost use Rattle.table.specs.Table.{slot, messageSlot};
 ghost use Rattle.table.specs.Opening.{opening, Open};
 
 // Where event k of station j stands.
@@ -15,6 +16,14 @@ pub fn slot(j: usize, k: usize) -> usize
     ensures { λ r. ⌜ (r ≡ slot j k) × (r + slotSize ≤ tableSize) ⌝ }
 {
     (j * (model::Log::EVENTS + 1) + k) * model::Log::SLOT
+}
+
+// Where message q stands.
+pub fn message_slot(q: usize) -> usize
+    requires { ⌜ q < limits .messages ⌝ }
+    ensures { λ r. ⌜ (r ≡ messageSlot q) × (r + messageSize ≤ storeSize) ⌝ }
+{
+    model::Log::TABLE + q * model::Log::MESSAGE
 }
 
 // Puts the first slot of station j into the store.

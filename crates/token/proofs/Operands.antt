@@ -7,11 +7,11 @@ use mathlib.Core.List.{List, [], _++_}
 use mathlib.Core.Bool.{Bool, true, false, Bool·beq, not as flip}
 use lib.ListN.{length, getD, drop, replicate, length-drop, length-append}
 use lib.Seq.{getD-take}
-use Rattle.model.specs.Atom.{Atom, atomBytes, soundAtom, raiseAtom}
+use Rattle.model.specs.Atom.{Atom, atomBytes, soundAtom, askable, raiseAtom}
 use Rattle.model.specs.Formula.{Formula, prefix, sound, weigh, tokens}
 use Rattle.model.specs.Formula.Formula.{not}
 use Rattle.model.specs.Computation.{Computation, full}
-use Rattle.model.specs.Rules.{Normal}
+use Rattle.model.specs.Rules.{Normal, workable}
 use Rattle.model.specs.Size.{width, held, narrow}
 use Rattle.model.specs.Structure.{Structure, build}
 use Rattle.model.specs.Basis.{basis}
@@ -74,11 +74,11 @@ module _ (s : Bool) (shape : Shape) (q starts values : List ℕ) (mw mb : ℕ) (
 
   -- ATOMS
 
-  pub ready-atom : (1 < getD q 0 0 → getD q 0 0 < 7 → ⊥) → (a : Atom) × (q ≡ atomBytes a ++ r .rest) × (soundAtom (shape .n) a ≡ true)
+  pub ready-atom : (1 < getD q 0 0 → getD q 0 0 < 7 → ⊥) → (a : Atom) × (q ≡ atomBytes a ++ r .rest) × (soundAtom (shape .n) a ≡ true) × (askable s a ≡ true)
   unfolding sound
   ready-atom k =
       let h = tokens.at-atom q (r .formula) (r .rest) (r .reads) k in
-      (h .0, h .2, sym (ap (sound (shape .n)) (h .1)) ∙ r .known)
+      (h .0, h .2, sym (ap (sound (shape .n)) (h .1)) ∙ r .known, sym (ap (λ (f : Formula). workable (normal s f)) (h .1) ∙ signed.workable-atom s (h .0)) ∙ r .works)
 
   -- There is room for one structure, and for its bars.
   one-fits : (c m : ℕ) → held (normal s (r .formula)) * c ≤ m → c ≤ m
@@ -111,6 +111,7 @@ module _ (s : Bool) (shape : Shape) (q starts values : List ℕ) (mw mb : ℕ) (
           reads = d ∙ h .2;
           known = sym (ap (sound (shape .n)) (h .1)) ∙ r .known;
           slim = sym (ap narrow m) ∙ r .slim;
+          works = sym (ap workable m) ∙ r .works;
           short = omega (arith, r .short, ap tokens (h .1));
           cells-fit = subst (λ (p : Normal). held p * ((shape .e + 1) * shape .n) ≤ mw) m (r .cells-fit);
           bars-fit = subst (λ (p : Normal). held p * (16 * shape .n) ≤ mb) m (r .bars-fit);
@@ -131,6 +132,7 @@ module _ (s : Bool) (shape : Shape) (q starts values : List ℕ) (mw mb : ℕ) (
           reads = d ∙ h .2;
           known = sym (ap (sound (shape .n)) (h .1) ∙ signed.sound-modal (shape .n) b (h .0)) ∙ r .known;
           slim = normals.narrow-lifted (Bool·beq b s) (normal b (h .0)) (sym (ap narrow m) ∙ r .slim) .1;
+          works = sym (ap (λ (f : Formula). workable (normal s f)) (h .1) ∙ signed.workable-modal s b (h .0)) ∙ r .works;
           short = omega (arith, r .short, ap tokens (h .1), signed.weigh-modal 1 1 1 b (h .0));
           cells-fit = omega (arith, mul-le-mul-right ((shape .e + 1) * shape .n) (g .0), x);
           bars-fit = omega (arith, mul-le-mul-right (16 * shape .n) (g .0), y);
@@ -151,6 +153,7 @@ module _ (s : Bool) (shape : Shape) (q starts values : List ℕ) (mw mb : ℕ) (
           reads = d ∙ h .3;
           known = and-true (sound (shape .n) (h .0)) (sound (shape .n) (h .1)) .0 (sym (ap (sound (shape .n)) (h .2) ∙ signed.sound-two (shape .n) b (h .0) (h .1)) ∙ r .known) .0;
           slim = normals.narrow-joined (Bool·beq b s) (normal s (h .0)) (normal s (h .1)) (sym (ap narrow m) ∙ r .slim) .0;
+          works = and-true (workable (normal s (h .0))) (workable (normal s (h .1))) .0 (sym (ap (λ (f : Formula). workable (normal s f)) (h .2) ∙ signed.workable-two s b (h .0) (h .1)) ∙ r .works) .0;
           short = omega (arith, r .short, ap tokens (h .2), signed.weigh-two 1 1 1 b (h .0) (h .1));
           cells-fit = omega (arith, mul-le-mul-right ((shape .e + 1) * shape .n) (g .0), x);
           bars-fit = omega (arith, mul-le-mul-right (16 * shape .n) (g .0), y);

@@ -7,6 +7,7 @@ use lib.ListN.{length, replicate}
 use Rattle.model.specs.Limits.{stepRounds}
 use Rattle.model.specs.Formula.{Formula, prefix, sound, tokens}
 use Rattle.model.specs.Computation.{Computation, full}
+use Rattle.model.specs.Rules.{workable}
 use Rattle.model.specs.Size.{held, narrow}
 use Rattle.model.specs.Basis.{basis}
 use Rattle.model.specs.Rounds.{rounds}
@@ -25,7 +26,7 @@ use Rattle.token.specs.Signed.{liftedBasis}
 abbrev pub roundsMost : ℕ
 roundsMost = 64 * stepRounds
 
--- A computation is laid out, a formula stands at the front of q, is narrow under the sign s, and there is room for what is held.
+-- A computation is laid out, a formula stands at the front of q, is narrow and can be worked out under the sign s, and there is room for what is held.
 pub record Ready (s : Bool) (x : Shape) (q starts facts : List ℕ) (mw mb : ℕ) : Type 0 where
   pub computation : Computation
   pub laid : Given computation x starts facts
@@ -34,6 +35,7 @@ pub record Ready (s : Bool) (x : Shape) (q starts facts : List ℕ) (mw mb : ℕ
   pub reads : q ≡ prefix formula ++ rest
   pub known : sound (x .n) formula ≡ true
   pub slim : narrow (normal s formula) ≡ true
+  pub works : workable (normal s formula) ≡ true
   pub short : tokens formula ≤ 32
   pub cells-fit : held (normal s formula) * ((x .e + 1) * x .n) ≤ mw
   pub bars-fit : held (normal s formula) * (16 * x .n) ≤ mb

@@ -4,6 +4,7 @@ use cells::word;
 use structure::Sets;
 use structure::Shape;
 ghost use mathlib.Core.Path.{_≡_};
+ghost use mathlib.Core.Bool.{true};
 ghost use mathlib.Core.List.{_∷_};
 ghost use Prim.Native.Nat.{_+_, _*_, _≤_, _<_};
 ghost use lib.ListN.{length, getD, replicate};
@@ -76,6 +77,18 @@ fn range(
     }
 }
 
+// 07 at the front of q, which is worked out as true alone.
+fn clear(q: &[u8], ws: &mut [u8], bs: &mut [u8], x: Shape, starts: &[u8], facts: &[u16]) -> Basis
+    requires { ⌜ Ready true x (now q) (now starts) (now facts) (length (now ws)) (length (now bs)) ⌝ }
+    requires { ⌜ getD (now q) 0 0 ≡ 7 ⌝ }
+    ensures { λ r. ⌜ Made true x (now (q .entry)) (now (starts .entry)) (now (facts .entry)) (r .sets) (r .used) (r .rounds) (now (ws .exit)) (now (bs .exit)) ⌝ }
+{
+    let i = wide(q[1]);
+    let j = wide(q[2]);
+    let c = steps::clear(ws, bs, x, starts, facts, i, j);
+    unmarked(c, 3, 0)
+}
+
 // The atom at the front of q, under the sign given.
 pub fn leaf(
     q: &[u8],
@@ -93,7 +106,8 @@ pub fn leaf(
     let t = q[0];
     match t {
         1 => range(q, ws, bs, x, starts, facts, sign),
-        0 | 2..=255 => unmarked(0, 0, 0),
+        7 => clear(q, ws, bs, x, starts, facts),
+        0 | 2..=6 | 8..=255 => unmarked(0, 0, 0),
     }
 }
 

@@ -1,6 +1,6 @@
 //! The basis, with rows of fixed size worked on in place.
 use crate::formula::{within, Token, Tokens};
-use crate::log::{contained, Cut, Log, OPERATIONS};
+use crate::log::{contained, Cut, Log, Message, OPERATIONS};
 
 /// A row that is none has 255 at station 0.
 const NONE: Cut = [255; 8];
@@ -35,7 +35,7 @@ impl Structure {
 }
 
 /// The most that was met: rounds of a start, structures of a basis, structures that stood at a time, bars of a structure in a basis,
-/// and of the right one of a pair.
+/// and of the right one of a pair, and passes that raised a start of a token 07.
 #[derive(Default)]
 pub struct Most {
     pub rounds: u32,
@@ -43,6 +43,7 @@ pub struct Most {
     pub standing: usize,
     pub bars: usize,
     pub right: usize,
+    pub passes: usize,
 }
 
 pub struct Worker<'a> {
@@ -55,6 +56,8 @@ pub struct Worker<'a> {
     waiting: usize,
     pub rounds: u32,
     pub most: Most,
+    /// Starts of tokens 07 that came to a cut, and to none, after no pass that raised them, one, or more.
+    pub raised: [[usize; 3]; 2],
 }
 
 impl<'a> Worker<'a> {
@@ -65,7 +68,7 @@ impl<'a> Worker<'a> {
             offs[j] = starts.len() - 1;
             starts.extend(h[1..].iter().map(|e| e.clock));
         }
-        Worker { log, offs, starts, waiting: 0, rounds: 0, most: Most::default() }
+        Worker { log, offs, starts, waiting: 0, rounds: 0, most: Most::default(), raised: [[0; 3]; 2] }
     }
 
     /// The least cut of a set that contains c, or none. Every row contains row 0, which stands for a count of 0.
@@ -90,6 +93,37 @@ impl<'a> Worker<'a> {
             d
         };
         Structure { rows: self.starts.iter().map(raised).collect(), bars: vec![] }
+    }
+
+    /// One pass over some messages: each that is due is received, with all that its receiving event has seen. None where one never came.
+    fn receive(&self, messages: &[Message], mut c: Cut) -> Cut {
+        for m in messages.iter().filter(|m| m.received > 0) {
+            if m.sent <= c[m.sender] && c[m.receiver] < m.received {
+                join(&mut c, &self.log.history[m.receiver][m.received as usize].clock);
+            }
+        }
+        if messages.iter().any(|m| m.received == 0 && m.sent <= c[m.sender]) { NONE } else { c }
+    }
+
+    /// Passes are made until nothing is due: what an event has seen may have been sent since.
+    fn clear(&mut self, sender: usize, receiver: usize) -> Structure {
+        let of_pair = |m: &&Message| (m.sender, m.receiver) == (sender, receiver);
+        let (messages, mut rows) = (self.log.messages.iter().filter(of_pair).copied().collect::<Vec<_>>(), self.starts.clone());
+        for row in &mut rows {
+            let mut passes = 0;
+            loop {
+                let c = self.receive(&messages, *row);
+                let last = c == *row || c == NONE;
+                *row = c;
+                if last {
+                    break;
+                }
+                passes += 1;
+            }
+            self.raised[(*row == NONE) as usize][passes.min(2)] += 1;
+            self.most.passes = self.most.passes.max(passes);
+        }
+        Structure { rows, bars: vec![] }
     }
 
     /// One start: what it comes to, and its rounds.
@@ -138,6 +172,8 @@ impl<'a> Worker<'a> {
         let mut out = Vec::new();
         match (f.take(), sign) {
             (Token::Range { station, lo, hi }, _) => out.push(self.range(station, |v| within(lo, hi, v) == sign)),
+            (Token::Clear { sender, receiver }, true) => out.push(self.clear(sender, receiver)),
+            (Token::Clear { .. }, false) => unreachable!("refused"),
             (Token::Not, _) => out = self.basis(f, !sign),
             (Token::And, true) | (Token::Or, false) => {
                 let (left, right) = self.operands(f, sign);

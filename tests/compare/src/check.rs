@@ -1,14 +1,16 @@
 //! One made-up log through all five operations, here and in the proved code.
 use crate::basis::Worker;
+use crate::clears::Clears;
 use crate::draw::Draw;
 use crate::ends;
-use crate::fault::Refusal;
+use crate::fault::{Refusal, KINDS};
 use crate::formula::{self, Token, Tokens};
 use crate::large;
 use crate::lent::Buffers;
 use crate::listing;
 use crate::log::{Log, OPERATIONS, PROGRAM, STATIONS};
 use crate::made::{self, Shape};
+use crate::messages;
 use crate::operations::{self as here, answer_line, costs, Costs, BARS, WORKSPACE};
 use crate::peak::{Peak, Peaks};
 use crate::proved::{self, Reply};
@@ -48,10 +50,12 @@ impl Case {
     pub fn new(seed: u64) -> Self {
         let mut draw = Draw(seed);
         let d = &mut draw;
-        // Whether the log is large, too long or neither is drawn apart, so that others do not depend on those two.
-        let sort = Draw(!seed).below(26);
+        // Whether the log is large, too long or neither, and whether it has messages, is drawn apart, so that others do not depend on it.
+        let (sort, sent) = (Draw(!seed).below(26), Draw(seed.rotate_left(32)).below(4) == 0);
         let fs = match sort {
             0 => large::frames(d),
+            2 if sent => messages::large_frames(d),
+            _ if sent => messages::frames(d),
             _ if d.below(50) == 0 => ends::frames(d),
             _ => drawn(d),
         };
@@ -79,26 +83,27 @@ enum Lends {
 use Lends::*;
 
 /// What was seen: calls, accepted logs, Holds' no and yes, answers that list no, one and several cuts, workspaces refused for one cell
-/// less than forecast and accepted with just these cells, each fault, peaks, sides of limits, ranges through zero, and by their stations
-/// the accepted logs of more events than the program takes.
+/// less than forecast and accepted with just these cells, each fault, peaks, sides of limits, ranges through zero, tokens 07, and by
+/// their stations the accepted logs of more events than the program takes.
 pub struct Counts {
     pub calls: usize,
     pub accepted: usize,
     pub holds: [usize; 2],
     pub answers: [usize; 3],
     pub limit: [usize; 2],
-    pub faults: [usize; 256],
+    pub faults: [usize; KINDS],
     pub peaks: Peaks,
     pub sides: Sides,
     pub zeros: Zeros,
+    pub clears: Clears,
     pub large: [usize; STATIONS],
 }
 
 impl Counts {
     pub fn new() -> Self {
-        let (peaks, sides, zeros) = (Peaks::default(), Sides::default(), Zeros::default());
-        let (holds, answers, limit, faults, large) = ([0; 2], [0; 3], [0; 2], [0; 256], [0; STATIONS]);
-        Counts { calls: 0, accepted: 0, holds, answers, limit, faults, peaks, sides, zeros, large }
+        let (peaks, sides, zeros, clears) = (Peaks::default(), Sides::default(), Zeros::default(), Clears::default());
+        let (holds, answers, limit, faults, large) = ([0; 2], [0; 3], [0; 2], [0; KINDS], [0; STATIONS]);
+        Counts { calls: 0, accepted: 0, holds, answers, limit, faults, peaks, sides, zeros, clears, large }
     }
 
     fn meet_log(&mut self, log: &Log, bytes: usize) {
@@ -107,16 +112,18 @@ impl Counts {
         self.large[log.stations() - 1] += (log.events > PROGRAM.events) as usize;
         self.peaks.meet(&[
             (Peak::Stations, log.stations()), (Peak::Events, log.events), (Peak::StationEvents, station),
-            (Peak::Questions, log.questions.len()), (Peak::LogBytes, bytes), (Peak::ListBytes, log.list.len()),
+            (Peak::Messages, log.messages.len()), (Peak::Questions, log.questions.len()), (Peak::LogBytes, bytes),
+            (Peak::ListBytes, log.list.len()),
         ]);
     }
 
     fn meet_question(&mut self, f: &[Token], [width, bars, held, cells, ceiling]: Costs, w: &Worker, listed: usize) {
         self.peaks.meet(&[
-            (Peak::Tokens, f.len()), (Peak::Ranges, formula::ranges(f)), (Peak::Width, width), (Peak::BarCount, bars),
+            (Peak::Tokens, f.len()), (Peak::Atoms, formula::atoms(f)), (Peak::Width, width), (Peak::BarCount, bars),
             (Peak::Held, held), (Peak::Cells, cells), (Peak::Ceiling, ceiling), (Peak::Standing, w.most.standing),
             (Peak::Structures, w.most.structures), (Peak::Bars, w.most.bars), (Peak::RightBars, w.most.right),
             (Peak::StartRounds, w.most.rounds as usize), (Peak::Rounds, w.rounds as usize), (Peak::Listed, listed),
+            (Peak::Passes, w.most.passes),
         ]);
     }
 
@@ -323,6 +330,7 @@ pub fn compare(case: Case, lent: &mut Buffers, counts: &mut Counts) {
         foretold(costs, &line, &worker);
         calls.counts.meet_question(f, costs, &worker, cuts_listed(&line));
         calls.counts.zeros.meet(&log, &mut Tokens(f), true);
+        calls.counts.clears.meet(&log, f, &worker);
         if listing::count(&log) <= 400 {
             calls.listed(&log, q, &line, worker.rounds);
         } else {

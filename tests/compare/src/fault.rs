@@ -1,9 +1,9 @@
 //! Every fault that document 01 names.
 use Fault::*;
 
-/// The upper digit is the refusal's number.
+/// The lowest digit aside, the refusal's number.
 #[derive(Clone, Copy, Debug)]
-#[repr(u8)]
+#[repr(u16)]
 pub enum Fault {
     LogTooLong = 0x10,
     NoEndOfLine = 0x20,
@@ -18,6 +18,9 @@ pub enum Fault {
     EventAfterQuestion,
     TooManyEvents,
     Question17,
+    EventAfterMessage,
+    MessageAfterQuestion,
+    TooManyMessages,
     EmptyLog,
     HeaderLength = 0x50,
     NoStation,
@@ -32,7 +35,7 @@ pub enum Fault {
     UnknownToken,
     FormulaStation,
     TokensOver32 = 0x90,
-    RangesOver12,
+    AtomsOver12,
     WidthOver16,
     BarsOver16,
     NoSuchQuestion = 0xA0,
@@ -45,19 +48,34 @@ pub enum Fault {
     LengthZero,
     LengthOver99,
     LengthPastEnd,
+    MessageLength = 0xF0,
+    SenderNotThere,
+    ReceiverNotThere,
+    SentZero,
+    SentNotThere,
+    ReceivedNotThere,
+    SentToSelf,
+    SendingNotSeen,
+    ClearUnderNot = 0x100,
+    ClearUnderAlways,
+    ClearJoined,
 }
 
-pub const ALL: [Fault; 40] = [
+/// One more than the largest.
+pub const KINDS: usize = 0x110;
+
+pub const ALL: [Fault; 54] = [
     LogTooLong, NoEndOfLine, OddDigits, NotADigit, LineUnder2, LineOver100, CheckByte, UnknownKind, NoHeader, SecondHeader,
-    EventAfterQuestion, TooManyEvents, Question17, EmptyLog, HeaderLength, NoStation, StationsOver8, EventLength, EventStation, OwnEntry,
-    EntryNotRead, ClockAbove, FormulaEnds, BytesAfterFormula, UnknownToken, FormulaStation, TokensOver32, RangesOver12, WidthOver16,
-    BarsOver16, NoSuchQuestion, Workspace, BarSpace, Output, CutLength, NotConsistent, ListTooLong, LengthZero, LengthOver99,
-    LengthPastEnd,
+    EventAfterQuestion, TooManyEvents, Question17, EventAfterMessage, MessageAfterQuestion, TooManyMessages, EmptyLog, HeaderLength,
+    NoStation, StationsOver8, EventLength, EventStation, OwnEntry, EntryNotRead, ClockAbove, FormulaEnds, BytesAfterFormula, UnknownToken,
+    FormulaStation, TokensOver32, AtomsOver12, WidthOver16, BarsOver16, NoSuchQuestion, Workspace, BarSpace, Output, CutLength,
+    NotConsistent, ListTooLong, LengthZero, LengthOver99, LengthPastEnd, MessageLength, SenderNotThere, ReceiverNotThere, SentZero,
+    SentNotThere, ReceivedNotThere, SentToSelf, SendingNotSeen, ClearUnderNot, ClearUnderAlways, ClearJoined,
 ];
 
 impl Fault {
     pub fn number(self) -> u8 {
-        self as u8 >> 4
+        (self as u16 >> 4) as u8
     }
 }
 

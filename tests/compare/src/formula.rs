@@ -4,6 +4,8 @@ use crate::fault::Fault;
 #[derive(Clone, Copy)]
 pub enum Token {
     Range { station: usize, lo: u16, hi: u16 },
+    /// Nothing is on the way from one station to another.
+    Clear { sender: usize, receiver: usize },
     Not,
     And,
     Or,
@@ -33,6 +35,15 @@ fn range(operands: &[u8], stations: usize) -> Result<Token, Fault> {
     Ok(Range { station, lo, hi })
 }
 
+fn clear(operands: &[u8], stations: usize) -> Result<Token, Fault> {
+    let &[sender, receiver] = operands else { return Err(Fault::FormulaEnds) };
+    let (sender, receiver) = (sender as usize, receiver as usize);
+    if sender.max(receiver) >= stations {
+        return Err(Fault::FormulaStation);
+    }
+    Ok(Clear { sender, receiver })
+}
+
 /// Whether a range holds a value. Where lo is above hi it goes through zero: from lo up, and up to hi.
 pub fn within(lo: u16, hi: u16, v: u16) -> bool {
     if lo <= hi {
@@ -46,7 +57,12 @@ pub fn parse(mut q: &[u8], stations: usize) -> Result<Vec<Token>, Fault> {
     let (mut tokens, mut missing) = (Vec::with_capacity(32), 1);
     while missing > 0 {
         let (&byte, rest) = q.split_first().ok_or(Fault::FormulaEnds)?;
-        let (operands, after) = rest.split_at(if byte == 1 { rest.len().min(5) } else { 0 });
+        let bytes = match byte {
+            1 => 5,
+            7 => 2,
+            _ => 0,
+        };
+        let (operands, after) = rest.split_at(rest.len().min(bytes));
         let (token, parts) = match byte {
             1 => (range(operands, stations)?, 0),
             2 => (Not, 1),
@@ -54,6 +70,7 @@ pub fn parse(mut q: &[u8], stations: usize) -> Result<Vec<Token>, Fault> {
             4 => (Or, 2),
             5 => (Possibly, 1),
             6 => (Always, 1),
+            7 => (clear(operands, stations)?, 0),
             _ => return Err(Fault::UnknownToken),
         };
         tokens.push(token);
@@ -74,7 +91,7 @@ pub struct Size {
     pub products: usize,
 }
 
-/// That of a range.
+/// That of a range, and of a token 07.
 const ONE: Size = Size { width: 1, bars: 0, most: 0, held: 1, products: 0 };
 
 /// Two operands joined to this width and bar count.
@@ -91,7 +108,7 @@ fn lifted(p: Size, width: usize, bars: usize) -> Size {
 /// The size as true or as false, width and bar count at most 16 at every token.
 pub fn size(f: &mut Tokens, sign: bool) -> Result<Size, Fault> {
     let s = match (f.take(), sign) {
-        (Range { .. }, _) => ONE,
+        (Range { .. } | Clear { .. }, _) => ONE,
         (Not, _) => size(f, !sign)?,
         (And, true) | (Or, false) => {
             let (l, r) = (size(f, sign)?, size(f, sign)?);
@@ -120,17 +137,33 @@ pub fn size(f: &mut Tokens, sign: bool) -> Result<Size, Fault> {
     Ok(s)
 }
 
-pub fn ranges(f: &[Token]) -> usize {
-    f.iter().filter(|t| matches!(t, Range { .. })).count()
+pub fn atoms(f: &[Token]) -> usize {
+    f.iter().filter(|t| matches!(t, Range { .. } | Clear { .. })).count()
 }
 
-/// The limits of tokens, ranges, width and bars.
+/// Every 07 is worked out as true. The fault of one that would be worked out as false goes by the token above it.
+fn workable(f: &mut Tokens, sign: bool, fault: Fault) -> Result<(), Fault> {
+    match f.take() {
+        Range { .. } => Ok(()),
+        Clear { .. } => if sign { Ok(()) } else { Err(fault) },
+        Not => workable(f, !sign, Fault::ClearUnderNot),
+        And | Or => {
+            workable(f, sign, Fault::ClearJoined)?;
+            workable(f, sign, Fault::ClearJoined)
+        }
+        Possibly => workable(f, true, fault),
+        Always => workable(f, false, Fault::ClearUnderAlways),
+    }
+}
+
+/// The limits of tokens, atoms, width and bars, and then the signs of tokens 07.
 pub fn fits(f: &[Token]) -> Result<(), Fault> {
     if f.len() > 32 {
         return Err(Fault::TokensOver32);
     }
-    if ranges(f) > 12 {
-        return Err(Fault::RangesOver12);
+    if atoms(f) > 12 {
+        return Err(Fault::AtomsOver12);
     }
-    size(&mut Tokens(f), true).map(drop)
+    size(&mut Tokens(f), true)?;
+    workable(&mut Tokens(f), true, Fault::ClearJoined)
 }

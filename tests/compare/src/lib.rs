@@ -1,6 +1,7 @@
 //! Document 01 again, in Rust and from the document alone: what the proved code is compared with.
 pub mod basis;
 pub mod check;
+pub mod clears;
 pub mod draw;
 pub mod ends;
 pub mod fault;
@@ -12,6 +13,7 @@ pub mod lent;
 pub mod listing;
 pub mod log;
 pub mod made;
+pub mod messages;
 pub mod operations;
 pub mod peak;
 pub mod proved;

@@ -34,6 +34,11 @@ pub fn truth(log: &Log, cuts: &[Cut], f: &mut Tokens) -> Vec<bool> {
         let value = |i: usize| log.history[station][cuts[i][station] as usize].value;
         return each(&|i| if lo > hi { !(hi + 1..lo).contains(&value(i)) } else { (lo..=hi).contains(&value(i)) });
     }
+    if let Token::Clear { sender, receiver } = token {
+        let between = log.messages.iter().filter(|m| (m.sender, m.receiver) == (sender, receiver)).collect::<Vec<_>>();
+        let received = |k: u8, c: &Cut| 0 < k && k <= c[receiver];
+        return each(&|i| between.iter().all(|m| cuts[i][sender] < m.sent || received(m.received, &cuts[i])));
+    }
     let a = truth(log, cuts, f);
     if let Token::And | Token::Or = token {
         let b = truth(log, cuts, f);

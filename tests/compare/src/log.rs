@@ -5,17 +5,18 @@ use crate::formula::{fits, parse, Token};
 pub const STATIONS: usize = 8;
 pub const QUESTIONS: usize = 16;
 
-/// The most events that a log may have, and the most bytes of a log and of a frame list.
+/// The most events and messages that a log may have, and the most bytes of a log and of a frame list.
 #[derive(Clone, Copy)]
 pub struct Limits {
     pub events: usize,
+    pub messages: usize,
     pub log: usize,
     pub list: usize,
 }
 
 /// Those of the operations, and of the printing program.
-pub const OPERATIONS: Limits = Limits { events: 254, log: 16384, list: 8192 };
-pub const PROGRAM: Limits = Limits { events: 127, log: 8192, list: 4096 };
+pub const OPERATIONS: Limits = Limits { events: 254, messages: 64, log: 16384, list: 8192 };
+pub const PROGRAM: Limits = Limits { events: 127, messages: 64, log: 8192, list: 4096 };
 
 /// A count for each station; those past the last are 0.
 pub type Cut = [u8; 8];
@@ -30,11 +31,21 @@ pub struct Event {
     pub clock: Cut,
 }
 
+/// Sent by an event of one station and received by an event of another, by their numbers; 0 where it never came.
+#[derive(Clone, Copy, PartialEq)]
+pub struct Message {
+    pub sender: usize,
+    pub sent: u8,
+    pub receiver: usize,
+    pub received: u8,
+}
+
 /// Event 0 of a station is its initial value with the empty cut.
 pub struct Log {
     limits: Limits,
     pub history: Vec<Vec<Event>>,
     pub events: usize,
+    pub messages: Vec<Message>,
     pub questions: Vec<Vec<Token>>,
     pub list: Vec<u8>,
 }
@@ -42,7 +53,7 @@ pub struct Log {
 impl Log {
     /// A log of which nothing has been read.
     fn new(limits: Limits) -> Self {
-        Log { limits, history: vec![], events: 0, questions: vec![], list: vec![] }
+        Log { limits, history: vec![], events: 0, messages: vec![], questions: vec![], list: vec![] }
     }
 
     pub fn stations(&self) -> usize {
@@ -91,6 +102,9 @@ impl Log {
         if !self.questions.is_empty() {
             return Err(Fault::EventAfterQuestion);
         }
+        if !self.messages.is_empty() {
+            return Err(Fault::EventAfterMessage);
+        }
         if self.events == self.limits.events {
             return Err(Fault::TooManyEvents);
         }
@@ -117,6 +131,37 @@ impl Log {
         Ok(())
     }
 
+    fn message(&mut self, f: &[u8]) -> Result<(), Fault> {
+        if self.stations() == 0 {
+            return Err(Fault::NoHeader);
+        }
+        if !self.questions.is_empty() {
+            return Err(Fault::MessageAfterQuestion);
+        }
+        if self.messages.len() == self.limits.messages {
+            return Err(Fault::TooManyMessages);
+        }
+        let &[sender, sent, receiver, received] = f else { return Err(Fault::MessageLength) };
+        let m = Message { sender: sender as usize, sent, receiver: receiver as usize, received };
+        let sending = self.history.get(m.sender).ok_or(Fault::SenderNotThere)?;
+        let receiving = self.history.get(m.receiver).ok_or(Fault::ReceiverNotThere)?;
+        if m.sender == m.receiver {
+            return Err(Fault::SentToSelf);
+        }
+        if sent == 0 {
+            return Err(Fault::SentZero);
+        }
+        if sent as usize >= sending.len() {
+            return Err(Fault::SentNotThere);
+        }
+        let event = receiving.get(received as usize).ok_or(Fault::ReceivedNotThere)?;
+        if received > 0 && event.clock[m.sender] < sent {
+            return Err(Fault::SendingNotSeen);
+        }
+        self.messages.push(m);
+        Ok(())
+    }
+
     fn question(&mut self, f: &[u8]) -> Result<(), Fault> {
         if self.stations() == 0 {
             return Err(Fault::NoHeader);
@@ -134,6 +179,7 @@ impl Log {
         match f[0] {
             0x10 => self.header(&f[1..]),
             0x20 => self.event(&f[1..]),
+            0x25 => self.message(&f[1..]),
             0x30 => self.question(&f[1..]),
             _ => Err(Fault::UnknownKind),
         }?;

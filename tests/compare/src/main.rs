@@ -29,7 +29,7 @@ fn asked(words: &[String]) -> Result<(u64, u64), String> {
         None => Ok(usual),
         Some(w) => w.parse().map_err(|_| format!("{w:?} is not a number from 0 to {}", u64::MAX)),
     };
-    let (logs, first) = (number(0, 24_000)?, number(1, 20261115)?);
+    let (logs, first) = (number(0, 32_000)?, number(1, 20261115)?);
     match words {
         [_, _, more, ..] => Err(format!("one word too many: {more:?}")),
         _ if logs == 0 => Err("0 logs compare nothing".to_string()),
@@ -38,8 +38,9 @@ fn asked(words: &[String]) -> Result<(u64, u64), String> {
     }
 }
 
-/// What was met too seldom for the run to say much: an outcome, a fault or an end of a range through zero less than ten times in 4,000
-/// logs, a peak or a number of stations of large logs less than once, a side of a limit less often than is wanted.
+/// What was met too seldom for the run to say much: an outcome, a fault, an end of a range through zero or a way that a token 07 is met
+/// less than ten times in 4,000 logs, a peak or a number of stations of large logs less than once, a side of a limit less often than is
+/// wanted.
 fn seldom(logs: u64, counts: &Counts) -> Vec<String> {
     let [no, yes] = counts.holds;
     let [none, one, several] = counts.answers;
@@ -54,16 +55,17 @@ fn seldom(logs: u64, counts: &Counts) -> Vec<String> {
     let sides = sides::WANTED.iter().map(|(s, least)| (format!("{s:?}"), counts.sides.of(*s), *least));
     let large = (1..).zip(counts.large).map(|(stations, n)| (format!("large of {stations} stations"), n, 1));
     let zeros = counts.zeros.figures().map(|(name, n)| (format!("through zero {name}"), n, 10));
-    let seen = outcomes.chain(faults).chain(peaks).chain(sides).chain(large).chain(zeros);
+    let clears = counts.clears.figures().map(|(name, n)| (format!("07 {name}"), n, 10));
+    let seen = outcomes.chain(faults).chain(peaks).chain(sides).chain(large).chain(zeros).chain(clears);
     seen.filter(|(_, n, least)| (*n as u64) < logs / 4000 * least).map(|(name, n, _)| format!("{name} {n}")).collect()
 }
 
 fn report(logs: u64, counts: &Counts) {
-    let Counts { calls, accepted, holds, answers, limit, faults, peaks, sides, zeros, large } = counts;
+    let Counts { calls, accepted, holds, answers, limit, faults, peaks, sides, zeros, clears, large } = counts;
     let refused: Vec<usize> = faults.chunks(16).map(|kinds| kinds.iter().sum()).collect();
     let reached: Vec<String> = WANTED.iter().map(|(p, _)| format!("{p:?} {} ({})", peaks.of(*p).most, peaks.of(*p).times)).collect();
     println!("{logs} logs, {accepted} accepted, {calls} calls, all equal");
-    println!("Holds no and yes: {holds:?}; answers with no, one, several cuts: {answers:?}; refusals 1 to 14: {:?}", &refused[1..15]);
+    println!("Holds no and yes: {holds:?}; answers with no, one, several cuts: {answers:?}; refusals 1 to 16: {:?}", &refused[1..]);
     println!("workspaces refused for one cell less than forecast, accepted with just these cells: {limit:?}");
     println!("peaks (and how often what is wanted): {}", reached.join(", "));
     let met: Vec<String> = sides::WANTED.iter().map(|(s, _)| format!("{s:?} {}", sides.of(*s))).collect();
@@ -71,6 +73,10 @@ fn report(logs: u64, counts: &Counts) {
     println!("accepted logs of more than {} events, by stations from 1: {large:?}", PROGRAM.events);
     let tried: Vec<String> = zeros.figures().map(|(name, n)| format!("{name} {n}")).collect();
     println!("ranges through zero, tried {}", tried.join(", "));
+    let by_fault: Vec<String> = ALL.iter().filter(|f| f.number() > 14).map(|f| format!("{f:?} {}", faults[*f as usize])).collect();
+    println!("refusals 15 and 16: {}", by_fault.join(", "));
+    let met: Vec<String> = clears.figures().map(|(name, n)| format!("{name} {n}")).collect();
+    println!("tokens 07: {}", met.join(", "));
     if logs < 4000 {
         println!("under 4000 logs: how often each was met is not judged");
     }

@@ -8,11 +8,12 @@ pub enum Peak {
     Stations,
     Events,
     StationEvents,
+    Messages,
     Questions,
     LogBytes,
     ListBytes,
     Tokens,
-    Ranges,
+    Atoms,
     Width,
     BarCount,
     Held,
@@ -25,21 +26,25 @@ pub enum Peak {
     StartRounds,
     Rounds,
     Listed,
+    Passes,
 }
 
 const EVENTS: usize = OPERATIONS.events;
+const MESSAGES: usize = OPERATIONS.messages;
 
 /// What each has to come to: the operations' limits and what follows from them, and rounds that pass two bytes.
 /// A frame of k bytes is k + 1 of the list and, with its check byte and 0A, 2 * k + 3 of the log; k is 18 for a header of 8 stations and 12
-/// for their events, and 93 for the longest question, 12 ranges and 20 tokens more.
+/// for their events, 5 for a message, and 93 for the longest question, 12 ranges and 20 tokens more.
 /// Structures held come to 36, by the forecast and at a time in the basis. The ceiling is highest where both widths, multiplied and added
 /// up over the signs joined as "and", are 92: four two-way ors take 4 + 8 + 16, four ranges more 16 each.
 /// A start's first round may add one event, and so may the last but one; the last adds none, and each other adds two or more.
-pub const WANTED: [(Peak, usize); 20] = [
-    (Stations, STATIONS), (Events, EVENTS), (StationEvents, EVENTS), (Questions, QUESTIONS),
-    (LogBytes, 39 + 27 * EVENTS + 189 * QUESTIONS), (ListBytes, 19 + 13 * EVENTS + 94 * QUESTIONS), (Tokens, 32), (Ranges, 12),
-    (Width, 16), (BarCount, 16), (Held, HELD), (Cells, WORKSPACE), (Ceiling, 92 * (EVENTS + 1) * (EVENTS + 1)), (Standing, HELD),
-    (Structures, 16), (Bars, 16), (RightBars, 16), (StartRounds, EVENTS / 2 + 2), (Rounds, 65_536), (Listed, 16),
+/// A token 07 may take a pass for each message.
+pub const WANTED: [(Peak, usize); 22] = [
+    (Stations, STATIONS), (Events, EVENTS), (StationEvents, EVENTS), (Messages, MESSAGES), (Questions, QUESTIONS),
+    (LogBytes, 39 + 27 * EVENTS + 13 * MESSAGES + 189 * QUESTIONS), (ListBytes, 19 + 13 * EVENTS + 6 * MESSAGES + 94 * QUESTIONS),
+    (Tokens, 32), (Atoms, 12), (Width, 16), (BarCount, 16), (Held, HELD), (Cells, WORKSPACE),
+    (Ceiling, 92 * (EVENTS + 1) * (EVENTS + 1)), (Standing, HELD), (Structures, 16), (Bars, 16), (RightBars, 16),
+    (StartRounds, EVENTS / 2 + 2), (Rounds, 65_536), (Listed, 16), (Passes, MESSAGES),
 ];
 
 /// The largest figure met, and how often one met what is wanted.

@@ -20,7 +20,7 @@ impl Zeros {
                 let tried = [has(lo), some_outside && has(lo - 1), has(hi), some_outside && has(hi + 1), !some_outside];
                 self.0.iter_mut().zip(tried).for_each(|(times, met)| times[sign as usize] += met as usize);
             }
-            Range { .. } => {}
+            Range { .. } | Clear { .. } => {}
             Not => self.meet(log, f, !sign),
             And | Or => {
                 self.meet(log, f, sign);

@@ -14,8 +14,11 @@ header-requires c κs = let p = c .before .before .before .before .before .pre i
 event-requires : tie.Need-event-requires
 event-requires c κs = let p = c .before .before .before .before .before .pre in (p .0, (p .1 .0, c .before .match .keys2, p .1 .2))
 
+message-requires : tie.Need-message-requires
+message-requires c κs = let p = c .before .before .before .before .before .pre in (p .0, (p .1 .0, c .before .match .keys3, p .1 .2))
+
 question-requires : tie.Need-question-requires
-question-requires c κs = let p = c .before .before .before .before .pre in (p .0, (p .1 .0, p .1 .1, c .match .keys3))
+question-requires c κs = let p = c .before .before .before .before .pre in (p .0, (p .1 .0, p .1 .1, c .match .keys4))
 
 faulty-requires : tie.Need-faulty-requires
 faulty-requires c κs = search needs
@@ -32,11 +35,17 @@ same-length-2 c = search needs
 returns-2 : tie.Need-returns-2
 returns-2 c = c .before .before .event .ensures
 
+same-length-3 : tie.Need-same-length-3
+same-length-3 c = search needs
+
 returns-3 : tie.Need-returns-3
-returns-3 c = c .question .ensures _
+returns-3 c = c .before .before .message .ensures
 
 returns-4 : tie.Need-returns-4
-returns-4 c = turned Kind _ (c .faulty .ensures) (c .before .before .before .before .before .pre .0 .1) (λ r h. kind-unknown _ r _ (c .before .match .rest .0 .0 .1) (c .before .match .rest .0 .1) (c .before .match .rest .1))
+returns-4 c = c .question .ensures _
+
+returns-5 : tie.Need-returns-5
+returns-5 c = turned Kind _ (c .faulty .ensures) (c .before .before .before .before .before .pre .0 .1) (λ r h. kind-unknown _ r _ (c .before .match .rest .0 .0 .0 .1) (c .before .match .rest .0 .0 .1) (c .before .match .rest .0 .1) (c .before .match .rest .1))
 
 pub admit-spec : {M : Type 1} → statement M
 admit-spec =
@@ -45,11 +54,14 @@ admit-spec =
     shared-slice-read-kind
     header-requires
     event-requires
+    message-requires
     question-requires
     faulty-requires
     same-length
     returns
     same-length-2
     returns-2
+    same-length-3
     returns-3
-    returns-4)
+    returns-4
+    returns-5)

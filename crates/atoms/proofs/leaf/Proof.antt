@@ -9,14 +9,28 @@ use Rattle.atoms.proofs.leaf.Tie as tie
 range-requires : tie.Need-range-requires
 range-requires c κs = search needs
 
+clear-requires : tie.Need-clear-requires
+clear-requires c κs = search needs
+
 returns : tie.Need-returns
-returns c = λ s. rw (c .before .match .keys1) (c .range .ensures s)
+returns c = rw (c .before .match .keys1) (c .range .ensures (c .before .before .before .args .sign))
 
 returns-2 : tie.Need-returns-2
-returns-2 c = λ s. nothing-unknown _ (c .before .before .args .rest .now) (token-none _ (λ e. omega (arith, c .match .keys2))) (c .before .before .pre)
+returns-2 c = rw (c .before .match .keys2) (c .clear .ensures)
 
 returns-3 : tie.Need-returns-3
-returns-3 c = λ s. nothing-unknown _ (c .before .before .args .rest .now) (token-none _ (c .match .rest .0 .1)) (c .before .before .pre)
+returns-3 c = nothing-unknown _ (c .before .before .args .rest .now) (token-none _ (λ e. omega (arith, c .match .keys3)) (λ e. omega (arith, c .match .keys3))) (c .before .before .pre)
+
+returns-4 : tie.Need-returns-4
+returns-4 c = nothing-unknown _ (c .before .before .args .rest .now) (token-none _ (c .match .rest .0 .0 .1) (c .match .rest .0 .1)) (c .before .before .pre)
 
 pub leaf-spec : {M : Type 1} → statement M
-leaf-spec = tie.close (tie.spec range-requires returns returns-2 returns-3)
+leaf-spec =
+    tie.close
+    (tie.spec
+    range-requires
+    clear-requires
+    returns
+    returns-2
+    returns-3
+    returns-4)

@@ -29,6 +29,9 @@ lay-values-requires c κs =
     let s = c .before .before .before .before .before .before .before .before .before in
     (shaped-here (c .before .before .before .before .before), (s .pre .0 .2, s .pre .0 .4))
 
+lay-messages-requires : tie.Need-lay-messages-requires
+lay-messages-requires c κs = let s = c .before .before .before .before .before .before .before .before .before .before .before .before .before in (s .pre .1 .3, s .pre .0 .2, omega (arith, s .pre .0 .4, c .before .before .before .lay-values .kept))
+
 same-length : tie.Need-same-length
 same-length c = search needs
 
@@ -37,16 +40,16 @@ same-length-2 c = search needs
 
 returns : tie.Need-returns
 returns c =
-    let s = c .before .before .before .before .before .before .before .before .before .before .before .before in
+    let s = c .before .before .before .before .before .before .before .before .before .before .before .before .before .before .before .before in
     let a = s .args in
-    let o = c .before .before .before .before .before .before .before .before .offsets in
+    let o = c .before .before .before .before .before .before .before .before .before .before .before .before .offsets in
     let few : total (take (a .n) (a .counts)) ≤ limits .events = omega (arith, s .pre .1) in
     let fit : a .n ≤ length (a .counts) = omega (arith, s .pre) in (
       refl,
       refl,
       λ K g. (
-        laid g fit few (s .pre .0 .1) (s .pre .0 .2) (a .e) (o .result) (s .pre .0 .0) (s .pre .1 .1) (o .ensures) _ (omega (arith, s .pre .0 .3, c .before .before .before .before .before .before .lay-starts .kept)) (c .before .before .before .before .before .before .lay-starts .ensures),
-        faced g fit few (s .pre .0 .1) (s .pre .0 .2) (a .e) (o .result) (s .pre .0 .0) (s .pre .1 .1) (o .ensures) _ (omega (arith, s .pre .0 .4, c .before .before .lay-values .kept)) (c .before .before .lay-values .ensures),
+        laid g fit few (s .pre .0 .1) (s .pre .0 .2) (a .e) (o .result) (s .pre .0 .0) (s .pre .1 .1) (o .ensures) _ (omega (arith, s .pre .0 .3, c .before .before .before .before .before .before .before .before .before .before .lay-starts .kept)) (c .before .before .before .before .before .before .before .before .before .before .lay-starts .ensures),
+        faced g fit few (s .pre .0 .1) (s .pre .0 .2) (a .e) (o .result) (s .pre .0 .0) (s .pre .1 .1) (o .ensures) _ _ (omega (arith, s .pre .0 .4, c .before .before .before .before .before .before .lay-values .kept)) (c .before .before .lay-messages .kept .1 .1 .0) (s .pre .1 .3) (c .before .before .before .before .before .before .lay-values .ensures) (c .before .before .lay-messages .ensures),
       ),
     )
 
@@ -57,6 +60,7 @@ lay-spec =
     offsets-requires
     lay-starts-requires
     lay-values-requires
+    lay-messages-requires
     same-length
     same-length-2
     returns)

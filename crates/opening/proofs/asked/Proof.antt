@@ -1,4 +1,4 @@
--- `asked` meets its contract: the frame behind the header and the events, without its kind, spells the question. Assumes nothing.
+-- `asked` meets its contract: the frame behind the header, the events and the messages, without its kind, spells the question. Assumes nothing.
 use mathlib.Core.Path.{_∙_}
 use native.Mathlib.Omega.{arith}
 use Rattle.opening.proofs.Logs.{asks-at, below, spelt-at}
@@ -6,14 +6,14 @@ use Rattle.opening.proofs.asked.Statement.{statement}
 use Rattle.opening.proofs.asked.Tie as tie
 
 first-question-requires : tie.Need-first-question-requires
-first-question-requires c κs = let p = c .before .before .pre .1 .1 in omega (arith, p .accepts .bounded .few-events, p .small .events)
+first-question-requires c κs = let p = c .before .before .pre .1 .1 in let b = p .accepts .bounded in (omega (arith, b .few-events, p .small .events), omega (arith, b .few-messages, p .small .messages))
 
 add-question-at : tie.Need-add-question-at
 add-question-at c =
     let p = c .before .before .before .pre in
     let h = p .1 .1 in
     let b = h .accepts .bounded in
-    omega (arith, c .first-question .ensures, b .few-events, b .few-questions, h .small .events, h .small .questions, p .0 .0)
+    omega (arith, c .first-question .ensures, b .few-events, b .few-messages, b .few-questions, h .small .events, h .small .messages, h .small .questions, p .0 .0)
 
 question-at-requires : tie.Need-question-at-requires
 question-at-requires c κs = let p = c .before .before .before .pre in (p .0 .1, (_, asks-at (p .1 .1 .accepts) _ (c .first-question .ensures) _ (p .0 .0)))

@@ -10,7 +10,7 @@ lay-requires c κs =
     let p = c .before .before .before .before .before .before .before .pre in
     let h = p .1 .1 in
     let b = bounded-up (h .small) (h .accepts .bounded) in
-    ((h .accepts .some-stations, b .few-stations, p .0 .0, p .0 .1, p .0 .2), (b .eight, counts-total (h .accepts) (h .small), b .few-events))
+    ((h .accepts .some-stations, b .few-stations, p .0 .0, p .0 .1, p .0 .2), (b .eight, counts-total (h .accepts) (h .small), b .few-events, b .few-messages))
 
 same-length : tie.Need-same-length
 same-length c = search needs

@@ -121,7 +121,7 @@ measure-returns-5 t c =
 
 measure-returns-6 : (t : ℕ) → measure-lts.Need-returns-6 (R-measure t) (measure-at t) measure.Post
 measure-returns-6 t c =
-    rw (front t (c .before .before .before)) (c .leaf .ensures (c .before .before .before .before .before .before .before .args .sign))
+    rw (front t (c .before .before .before)) (c .leaf .ensures)
 
 pub +measure-spec : {M : Type 1} → statement M
 +measure-spec = close μ-measure λ t. measure-lts.spec (R-measure t) (measure-at t)

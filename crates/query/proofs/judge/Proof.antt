@@ -3,7 +3,7 @@ use mathlib.Core.Bool.{true}
 use borrow.Author.Tests.{not-true, not-false}
 use borrow.Author.Needs.{needs}
 use Rattle.atoms.specs.Measured.{Sized}
-use Rattle.query.proofs.Judged.{judged-nothing, judged-more, judged-unsound, judged-tokens, judged-atoms, judged-wide, judged-fine}
+use Rattle.query.proofs.Judged.{judged-nothing, judged-more, judged-unsound, judged-tokens, judged-atoms, judged-wide, judged-unworkable, judged-fine}
 use Rattle.query.proofs.judge.Statement.{statement}
 use Rattle.query.proofs.judge.Tie as tie
 
@@ -45,7 +45,10 @@ returns-6 : tie.Need-returns-6
 returns-6 c = judged-wide (size (c .before .before .before .before .before .before .before .before .before .before)) (c .before .before .before .before .before .before .before .before .if1 .left) (not-false _ (c .before .before .before .before .before .before .if2 .left)) (c .before .before .before .before .if3 .left) (c .before .before .if4 .left) (c .enum-told2 .given .1)
 
 returns-7 : tie.Need-returns-7
-returns-7 c = judged-fine (size (c .before .before .before .before .before .before .before .before .before .before .before)) (c .before .before .before .before .before .before .before .before .before .if1 .left) (not-false _ (c .before .before .before .before .before .before .before .if2 .left)) _ (c .before .before .before .before .before .if3 .left) (c .before .before .before .if4 .left) (c .before .e .given .1)
+returns-7 c = let b = c .before .before in judged-unworkable (size (b .before .before .before .before .before .before .before .before .before .before .before)) (b .before .before .before .before .before .before .before .before .before .if1 .left) (not-false _ (b .before .before .before .before .before .before .before .if2 .left)) _ (b .before .before .before .before .before .if3 .left) (b .before .before .before .if4 .left) (b .before .e .given .1) (not-true _ (c .if5 .taken))
+
+returns-8 : tie.Need-returns-8
+returns-8 c = let b = c .before .before in judged-fine (size (b .before .before .before .before .before .before .before .before .before .before .before)) (b .before .before .before .before .before .before .before .before .before .if1 .left) (not-false _ (b .before .before .before .before .before .before .before .if2 .left)) _ (b .before .before .before .before .before .if3 .left) (b .before .before .before .if4 .left) (b .before .e .given .1) (not-false _ (c .if5 .left))
 
 pub judge-spec : {M : Type 1} → statement M
 judge-spec =
@@ -62,4 +65,5 @@ judge-spec =
     enum-known-e
     enum-told-2
     returns-6
-    returns-7)
+    returns-7
+    returns-8)

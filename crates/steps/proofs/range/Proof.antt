@@ -2,7 +2,7 @@
 use Prim.Native.Nat.{_+_, _*_}
 use mathlib.Core.Path.{refl}
 use native.Mathlib.Omega.{arith}
-use Rattle.steps.proofs.Atoms as atoms
+use Rattle.structure.proofs.Starts.{own-fit}
 use Rattle.steps.proofs.Ranges as ranges
 use borrow.Author.Needs.{needs}
 use Rattle.steps.proofs.range.Statement.{statement}
@@ -15,7 +15,7 @@ cast-off : tie.Need-cast-off
 cast-off c =
     let a = c .before .before .before .before .before .before .args in
     let p = c .before .before .before .before .before .before .pre in
-    omega (arith, atoms.own-fit _ _ _ (p .0 .1) (a .r .station) (p .1 .0), p .0 .1 .shaped .few-events)
+    omega (arith, own-fit _ _ _ (p .0 .1) (a .r .station) (p .1 .0), p .0 .1 .shaped .few-events)
 
 slice-aggregate-fill-table : tie.Need-slice-aggregate-fill-table
 slice-aggregate-fill-table c = search needs
@@ -24,7 +24,7 @@ add-fill-table : tie.Need-add-fill-table
 add-fill-table c =
     let a = c .before .before .before .before .before .before .before .args in
     let p = c .before .before .before .before .before .before .before .pre in
-    omega (arith, atoms.own-fit _ _ _ (p .0 .1) (a .r .station) (p .1 .0), p .0 .1 .shaped .few-events, p .0 .1 .shaped .few-stations)
+    omega (arith, own-fit _ _ _ (p .0 .1) (a .r .station) (p .1 .0), p .0 .1 .shaped .few-events, p .0 .1 .shaped .few-stations)
 
 array-read-fill-table : tie.Need-array-read-fill-table
 array-read-fill-table c = search needs
@@ -33,13 +33,13 @@ cast-fill-table : tie.Need-cast-fill-table
 cast-fill-table c =
     let a = c .before .before .before .before .before .before .before .args in
     let p = c .before .before .before .before .before .before .before .pre in
-    omega (arith, atoms.own-fit _ _ _ (p .0 .1) (a .r .station) (p .1 .0), p .0 .1 .shaped .few-events)
+    omega (arith, own-fit _ _ _ (p .0 .1) (a .r .station) (p .1 .0), p .0 .1 .shaped .few-events)
 
 fill-table-requires : tie.Need-fill-table-requires
 fill-table-requires c κs =
     let a = c .before .before .before .before .before .before .before .args in
     let p = c .before .before .before .before .before .before .before .pre in
-    (refl, omega (arith, atoms.own-fit _ _ _ (p .0 .1) (a .r .station) (p .1 .0), p .0 .1 .shaped .few-events), ranges.values-fit _ _ _ (p .0 .1) (a .r .station) (p .1 .0) _ (p .0 .2))
+    (refl, omega (arith, own-fit _ _ _ (p .0 .1) (a .r .station) (p .1 .0), p .0 .1 .shaped .few-events), ranges.values-fit _ _ _ (p .0 .1) (a .r .station) (p .1 .0) _ (p .0 .2))
 
 atom-requires : tie.Need-atom-requires
 atom-requires c κs =

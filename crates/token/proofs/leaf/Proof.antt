@@ -1,14 +1,15 @@
 -- Each atom's token by its function; no other token stands there.
-use mathlib.Core.Path.{_≡_, ap, _∙_}
-use mathlib.Core.Logic.{⊎-elim}
+use mathlib.Core.Path.{_≡_, sym, ap, _∙_}
+use mathlib.Core.Logic.{_⊎_, inl, inr, ⊎-elim}
 use Prim.Native.Nat.{ℕ, _<_}
 use native.Mathlib.Omega.{arith}
 use mathlib.Core.List.{List}
-use mathlib.Core.Bool.{Bool}
+use mathlib.Core.Bool.{Bool, true}
 use lib.ListN.{getD}
 use Rattle.structure.specs.declared.Shape.{Shape}
 use Rattle.token.specs.Contract.{Ready}
-use Rattle.token.proofs.Atoms.{head-is, token-is}
+use Rattle.model.specs.Atom.{atomBytes}
+use Rattle.token.proofs.Atoms.{head-is, token-is, at-clear, clear-sign}
 use Rattle.token.proofs.Operands as laws
 use borrow.Author.Needs.{needs}
 use Rattle.token.proofs.leaf.Statement.{statement}
@@ -16,16 +17,26 @@ use Rattle.token.proofs.leaf.Tie as tie
 
 -- The token is an atom's.
 token-there : (s : Bool) (x : Shape) (q starts facts : List ℕ) (mw mb : ℕ) → Ready s x q starts facts mw mb
-    → (1 < getD q 0 0 → getD q 0 0 < 7 → ⊥) → getD q 0 0 ≡ 1
+    → (1 < getD q 0 0 → getD q 0 0 < 7 → ⊥) → (getD q 0 0 ≡ 1) ⊎ (getD q 0 0 ≡ 7)
 token-there s x q starts facts mw mb r k =
     let h = laws.ready-atom s x q starts facts mw mb r k in
-    ap (λ (l : List ℕ). getD l 0 0) (h .1) ∙ head-is (h .0) (r .rest) ∙ token-is (h .0)
+    let e : getD q 0 0 ≡ getD (atomBytes (h .0)) 0 0 = ap (λ (l : List ℕ). getD l 0 0) (h .1) ∙ head-is (h .0) (r .rest) in
+    elim (token-is (h .0)) [ inl z ↦ inl (e ∙ z) | inr z ↦ inr (e ∙ z) ]
+
+-- 07 is worked out as true.
+as-true : (s : Bool) (x : Shape) (q starts facts : List ℕ) (mw mb : ℕ) → Ready s x q starts facts mw mb → getD q 0 0 ≡ 7 → s ≡ true
+as-true s x q starts facts mw mb r k =
+    let h = laws.ready-atom s x q starts facts mw mb r (λ a b. omega (arith, k)) in
+    clear-sign q (h .0) s (at-clear q (h .0) (r .rest) (h .1) k) (h .3)
 
 shared-slice-read-t : tie.Need-shared-slice-read-t
 shared-slice-read-t c = laws.question-some _ _ _ _ _ _ _ (c .before .before .before .before .before .before .pre .0)
 
 range-requires : tie.Need-range-requires
 range-requires c κs = search needs
+
+clear-requires : tie.Need-clear-requires
+clear-requires c κs = let p = c .before .before .before .before .before .before .before .before .before .pre in let k = c .before .before .match .keys2 in (rw (sym (as-true _ _ _ _ _ _ _ (p .0) k)) (p .0), k)
 
 unmarked-requires : tie.Need-unmarked-requires
 unmarked-requires c κs = search needs
@@ -39,11 +50,35 @@ same-length-2 c = search needs
 returns : tie.Need-returns
 returns c = search needs
 
+same-length-3 : tie.Need-same-length-3
+same-length-3 c = search needs
+
+same-length-4 : tie.Need-same-length-4
+same-length-4 c = search needs
+
 returns-2 : tie.Need-returns-2
-returns-2 c =
+returns-2 c = let p = c .before .before .before .before .before .before .before .before .before .before .before .before .before .before .pre in rw (as-true _ _ _ _ _ _ _ (p .0) (c .before .before .before .before .before .before .before .match .keys2)) (c .before .before .before .before .clear .ensures)
+
+returns-3 : tie.Need-returns-3
+returns-3 c =
     let p = c .before .before .before .before .before .before .before .before .pre in
-    let t = token-there _ _ _ _ _ _ _ (p .0) (p .1) in
-    absurd (⊎-elim (λ w. omega (arith, t, w .keys2)) (λ w. w .rest .0 .1 t) (c .before .match .came))
+    absurd (⊎-elim
+    (λ t. ⊎-elim (λ w. omega (arith, t, w .keys3)) (λ w. w .rest .0 .0 .1 t) (c .before .match .came))
+    (λ t. ⊎-elim (λ w. omega (arith, t, w .keys3)) (λ w. w .rest .0 .1 t) (c .before .match .came))
+    (token-there _ _ _ _ _ _ _ (p .0) (p .1)))
 
 pub leaf-spec : {M : Type 1} → statement M
-leaf-spec = tie.close (tie.spec shared-slice-read-t range-requires unmarked-requires same-length same-length-2 returns returns-2)
+leaf-spec =
+    tie.close
+    (tie.spec
+    shared-slice-read-t
+    range-requires
+    clear-requires
+    unmarked-requires
+    same-length
+    same-length-2
+    returns
+    same-length-3
+    same-length-4
+    returns-2
+    returns-3)

@@ -11,7 +11,7 @@ use Rattle.model.specs.Reading.{Reading}
 use Rattle.table.specs.Table.{Stored}
 use Rattle.frame.specs.State.{Represents}
 use Rattle.frame.proofs.Steps.{Frame, turned, bounded-up}
-use Rattle.admit.proofs.Events.{before-header, after-question, too-many, wrong-length, no-station, clock-wrong, tested, event-next}
+use Rattle.admit.proofs.Events.{before-header, too-late, too-many, wrong-length, no-station, clock-wrong, tested, event-next}
 use borrow.Author.Needs.{needs}
 use Rattle.admit.proofs.event.event.Statement.{statement}
 use Rattle.admit.proofs.event.event.Tie as tie
@@ -33,11 +33,14 @@ faulty-requires c κs = search needs
 returns : tie.Need-returns
 returns c = turned Kind _ (c .faulty .ensures) (c .before .before .before .before .pre .0 .1) (λ r h. before-header _ (framed (c .before .before .before .before) r h) (c .before .if1 .taken))
 
+add-if2 : tie.Need-add-if2
+add-if2 c = search needs
+
 faulty-requires-2 : tie.Need-faulty-requires-2
 faulty-requires-2 c κs = search needs
 
 returns-2 : tie.Need-returns-2
-returns-2 c = turned Kind _ (c .faulty2 .ensures) (c .before .before .before .before .before .before .pre .0 .1) (λ r h. after-question _ (framed (c .before .before .before .before .before .before) r h) (c .before .if2 .taken))
+returns-2 c = turned Kind _ (c .faulty2 .ensures) (c .before .before .before .before .before .before .pre .0 .1) (λ r h. too-late _ (framed (c .before .before .before .before .before .before) r h) (c .before .if2 .taken))
 
 faulty-requires-3 : tie.Need-faulty-requires-3
 faulty-requires-3 c κs = search needs
@@ -117,6 +120,7 @@ event-spec =
     (tie.spec
     faulty-requires
     returns
+    add-if2
     faulty-requires-2
     returns-2
     faulty-requires-3

@@ -1,9 +1,9 @@
 -- The two cases of a count.
 use borrow.Author.Tests.{eq-eqb, ne-eqb}
-use Rattle.steps.specs.Rows.{eventRow}
+use Rattle.structure.specs.Layout.{eventRow}
 use borrow.Author.Needs.{needs}
-use Rattle.steps.proofs.event_row.Statement.{statement}
-use Rattle.steps.proofs.event_row.Tie as tie
+use Rattle.structure.proofs.event_row.Statement.{statement}
+use Rattle.structure.proofs.event_row.Tie as tie
 
 add-result : tie.Need-add-result
 add-result c = search needs
