@@ -4,17 +4,16 @@ use mathlib.Core.Logic.{⊎-elim}
 use Prim.Native.Nat.{ℕ, zero, suc, _+_, _*_, _≤_, _<_}
 use native.Mathlib.Omega.{arith}
 use native.Mathlib.Decide.{decLt}
-use mathlib.Core.List.{List, [], _∷_}
+use mathlib.Core.List.{List}
 use mathlib.Core.Option.{Option, none, some}
-use lib.ListN.{length, getD, getElem?, take, drop}
+use lib.ListN.{length, getD, take, drop}
 use lib.Seq.{getD-take, getD-drop}
 use borrow.Author.Tests.{eq-eqb, ne-eqb, lt-ltb, le-ltb}
 use Rattle.model.specs.Cut.{_!_}
 use Rattle.model.specs.Computation.{Computation, Message, count, clock}
 use Rattle.lattice.specs.Due.{due}
 use Rattle.lattice.proofs.Valid.{GoodMessage}
-use Rattle.lattice.proofs.Lists.{all-elem, All, all-map, all-both}
-use Rattle.lattice.proofs.Lists.All.{done, also}
+use Rattle.lattice.proofs.Lists.{all-elems, All, all-map, all-both}
 use Rattle.lattice.proofs.Consistency.{clock-consistent}
 use Rattle.lattice.proofs.Due.{Due, due-ok, entry-none, entry-now, entry-on}
 use Rattle.structure.specs.declared.Shape.{Shape}
@@ -22,34 +21,18 @@ use Rattle.structure.specs.Layout.{coded, eventRow}
 use Rattle.structure.specs.Laid.{pairOf, Laid, Facts}
 use Rattle.structure.proofs.Places.{row-fits}
 use Rattle.structure.proofs.Starts.{event-fits, events-few, count-is, own-fit, clock-is}
-use Rattle.arrivals.specs.Table.{Listed, latest, highest, brought, onward, settled, Known, Entered, Arrivals}
+use Rattle.arrivals.specs.Table.{latest, highest, brought, onward, settled, Known, Entered, Arrivals}
 use Rattle.arrivals.proofs.Marks.{Small, latest-low, highest-due}
 
 -- Each entry of the table is what is due by then.
 abbrev AllDue : Computation → ℕ → ℕ → List ℕ → Type 0
 AllDue K i j table = (x : ℕ) → x ≤ count K i → getD table x 0 ≡ coded (due i j x (K .messages))
 
-all-of : {A : Type 0} {G : A → Type 0} (l : List A) → ((q : ℕ) (m : A) → getElem? l q ≡ some m → G m) → All G l
-all-of [] f = done
-all-of (m ∷ l) f = also (f 0 m refl) (all-of l (λ q. f (suc q)))
-
 module _ (K : Computation) (x : Shape) (starts : List ℕ) (laid : Laid K x starts) where
   -- THE MESSAGES
 
-  module _ (facts : List ℕ) (f : Facts K x facts) where
-    receipt-small : (q : ℕ) (m : Message) → getElem? (K .messages) q ≡ some m → m .received < 256
-    receipt-small q m e = omega (arith, all-elem (K .messages) (laid .valid .messages) q m e .received, events-few K x starts laid (m .receiver))
-
-    pub listed : Listed (K .messages) facts
-    listed = record {
-      fit = f .facts-fit;
-      few = f .few-messages;
-      number = f .messages-counted;
-      each = λ q m e. (f .messages-are q m e, receipt-small q m e);
-    }
-
-    small : All Small (K .messages)
-    small = all-of (K .messages) (λ q m e. (f .messages-are q m e .low, receipt-small q m e))
+  small : (facts : List ℕ) → Facts K x facts → All Small (K .messages)
+  small facts f = all-elems (K .messages) (λ q m e. (f .filed .each q m e .receiver-low, f .filed .each q m e .received-low))
 
   -- The sender's events, and the events of all stations before the receiver.
   module _ (i j : ℕ) (hi : i < x .n) (hj : j < x .n) (m off : ℕ) (m-is : m ≡ getD (x .counts) i 0) (off-is : off ≡ getD (x .offs) j 0) where

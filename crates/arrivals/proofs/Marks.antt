@@ -5,28 +5,23 @@ use Prim.Native.Nat.{ℕ, zero, suc, _+_, _≤_, _<_, max}
 use native.Mathlib.Omega.{arith}
 use native.Mathlib.Decide.{decLt}
 use mathlib.Core.Bool.{Bool, true, false, cond, _&&_}
-use mathlib.Core.List.{List, [], _∷_}
+use mathlib.Core.List.{List, _∷_}
 use mathlib.Core.Option.{Option, none, some}
 use lib.Dec.{eqb, leb}
-use lib.ListN.{length, getD, getElem?, drop, set, replicate, getD-replicate, drop-of-length-le}
+use lib.ListN.{length, getD, drop, set, replicate, getD-replicate, drop-of-length-le}
 use lib.Seq.{getD-set-same, getD-set-other}
 use borrow.Author.Tests.{eqb-true, eqb-false, eq-eqb, ne-eqb, le-leb, lt-leb}
 use Rattle.model.specs.Computation.{Message}
 use Rattle.model.specs.Atom.{sentBy}
 use Rattle.lattice.specs.Due.{later, due}
 use Rattle.lattice.proofs.Tests.{and-true, same-test}
-use Rattle.lattice.proofs.Lists.{All}
+use Rattle.lattice.proofs.Lists.{All, elem-there}
 use Rattle.lattice.proofs.Lists.All.{done, also}
 use Rattle.structure.specs.Layout.{coded}
-use Rattle.structure.specs.Laid.{pairOf, messageAt, Filed}
-use Rattle.arrivals.specs.Table.{Listed, receipt, sentAt, latest, highest}
+use Rattle.structure.specs.Laid.{pairOf, messageAt, Filed, AllFiled}
+use Rattle.arrivals.specs.Table.{receipt, sentAt, latest, highest}
 
 -- THE LOOP OVER THE MESSAGES
-
-elem-there : {A : Type 0} (l : List A) (q : ℕ) → q < length l → (m : A) × (getElem? l q ≡ some m) × (drop q l ≡ m ∷ drop (suc q) l)
-elem-there [] q h = absurd (omega arith)
-elem-there (m ∷ l) zero h = (m, refl, refl)
-elem-there (m ∷ l) (suc q) h = elem-there l q (omega arith)
 
 module _ (pair : ℕ) (m : Message) (l : List Message) (t : List ℕ) (marks : (x : ℕ) → x < 256 → getD t x 0 ≡ latest pair x l) where
   -- A message of the pair is marked where it is sent.
@@ -49,24 +44,24 @@ module _ (pair : ℕ) (m : Message) (l : List Message) (t : List ℕ) (marks : (
   mark-miss f x b = rw (ne-eqb (pairOf (m .sender) (m .receiver)) pair f) (marks x b)
 
 -- A turn of the loop, at message q of those that stand in the facts.
-module _ (l : List Message) (facts : List ℕ) (listed : Listed l facts) (q : ℕ) (h : q < length l) where
+module _ (l : List Message) (facts : List ℕ) (listed : AllFiled l facts) (q : ℕ) (h : q < length l) where
   abbrev at : ℕ
   at = messageAt q
 
   abbrev m : Message
   m = elem-there l q h .0
 
-  filed : Filed m facts at × (m .received < 256)
+  filed : Filed m facts at
   filed = listed .each q m (elem-there l q h .1)
 
   pub place-fits : at + 2 < length facts
   place-fits = omega (arith, listed .fit, listed .few)
 
   pub sent-low : getD facts (at + 1) 0 < 256
-  sent-low = omega (arith, filed .0 .sent, filed .0 .sent-low)
+  sent-low = omega (arith, filed .sent, filed .sent-low)
 
   pub received-low : getD facts (at + 2) 0 < 256
-  received-low = omega (arith, filed .0 .received, filed .1)
+  received-low = omega (arith, filed .received, filed .received-low)
 
   module _ (pair p : ℕ) (e : p ≡ suc q) (t : List ℕ) (marks : (x : ℕ) → x < 256 → getD t x 0 ≡ latest pair x (drop p l)) where
     marks-behind : (x : ℕ) → x < 256 → getD t x 0 ≡ latest pair x (drop (suc q) l)
@@ -75,11 +70,11 @@ module _ (l : List Message) (facts : List ℕ) (listed : Listed l facts) (q : �
     pub marked : length t ≡ 256 → getD facts at 0 ≡ pair → (v : ℕ) → v ≡ max (getD t (getD facts (at + 1) 0) 0) (receipt (getD facts (at + 2) 0))
         → (x : ℕ) → x < 256 → getD (set t (getD facts (at + 1) 0) v) x 0 ≡ latest pair x (drop q l)
     marked n f v g =
-        rw (elem-there l q h .2, filed .0 .sent)
-        (mark-hit pair m (drop (suc q) l) t marks-behind n (filed .0 .sent-low) (sym (filed .0 .pair) ∙ f) v (rw (filed .0 .sent, filed .0 .received) at g))
+        rw (elem-there l q h .2, filed .sent)
+        (mark-hit pair m (drop (suc q) l) t marks-behind n (filed .sent-low) (sym (filed .pair) ∙ f) v (rw (filed .sent, filed .received) at g))
 
     pub passed : (getD facts at 0 ≡ pair → ⊥) → (x : ℕ) → x < 256 → getD t x 0 ≡ latest pair x (drop q l)
-    passed f = rw (elem-there l q h .2) (mark-miss pair m (drop (suc q) l) t marks-behind (λ z. f (filed .0 .pair ∙ z)))
+    passed f = rw (elem-there l q h .2) (mark-miss pair m (drop (suc q) l) t marks-behind (λ z. f (filed .pair ∙ z)))
 
 -- Before the loop.
 pub no-marks : (pair : ℕ) (l : List Message) (p : ℕ) → length l ≡ p → (t : List ℕ) → t ≡ replicate 256 0 → (x : ℕ) → x < 256 → getD t x 0 ≡ latest pair x (drop p l)

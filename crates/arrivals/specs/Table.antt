@@ -3,24 +3,16 @@ use mathlib.Core.Path.{_≡_}
 use Prim.Native.Nat.{ℕ, zero, suc, _+_, _*_, _≤_, _<_, max}
 use mathlib.Core.Bool.{Bool, cond, _&&_}
 use mathlib.Core.List.{List, [], _∷_}
-use mathlib.Core.Option.{Option, some}
+use mathlib.Core.Option.{Option}
 use lib.Dec.{eqb, ltb}
-use lib.ListN.{length, getD, getElem?}
-use Rattle.model.specs.Limits.{limits, valuesSize, factsSize}
+use lib.ListN.{length, getD}
 use Rattle.model.specs.Computation.{Computation, Message, count}
 use Rattle.lattice.proofs.Valid.{Valid}
 use Rattle.lattice.proofs.Due.{Entry}
 use Rattle.structure.specs.Layout.{coded, eventRow}
-use Rattle.structure.specs.Laid.{pairOf, messageAt, Filed}
+use Rattle.structure.specs.Laid.{pairOf}
 
 -- MARKS
-
--- The messages stand in the facts: their number, and each of them; the events that receive them are bytes.
-pub record Listed (messages : List Message) (facts : List ℕ) : Type 0 where
-  pub fit : factsSize ≤ length facts
-  pub few : length messages ≤ limits .messages
-  pub number : getD facts valuesSize 0 ≡ length messages
-  pub each : (q : ℕ) (m : Message) → getElem? messages q ≡ some m → Filed m facts (messageAt q) × (m .received < 256)
 
 -- The event that receives a message, or 255 if it never came.
 unfoldable pub receipt : ℕ → ℕ

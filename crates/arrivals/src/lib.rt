@@ -11,8 +11,8 @@ ghost use Prim.Native.Nat.{ℕ, _+_, _*_, _≤_, _<_};
 ghost use lib.ListN.{length, getD, replicate};
 ghost use Rattle.model.specs.Limits.{limits};
 ghost use Rattle.model.specs.Computation.{Computation, Message};
-ghost use Rattle.structure.specs.Laid.{Laid, Facts};
-ghost use Rattle.arrivals.specs.Table.{Listed, receipt, latest, highest, settled, Known, Arrivals};
+ghost use Rattle.structure.specs.Laid.{AllFiled, Laid, Facts};
+ghost use Rattle.arrivals.specs.Table.{receipt, latest, highest, settled, Known, Arrivals};
 
 // The event that receives a message, or 255 if it never came.
 fn receipt(k: u16) -> u8
@@ -24,8 +24,8 @@ fn receipt(k: u16) -> u8
 
 // Each message of the pair is marked at the event that sends it, by the event that receives it: of several the last.
 fn mark(table: &mut [u8], facts: &[u16], pair: u16)
-    requires { ⌜ (now table ≡ replicate 256 0) × ((l : List Message) × Listed l (now facts)) ⌝ }
-    ensures { λ _. ⌜ ((l : List Message) → Listed l (now (facts .entry)) → (x : ℕ) → x < 256 → getD (now (table .exit)) x 0 ≡ latest pair x l) ⌝ }
+    requires { ⌜ (now table ≡ replicate 256 0) × ((l : List Message) × AllFiled l (now facts)) ⌝ }
+    ensures { λ _. ⌜ ((l : List Message) → AllFiled l (now (facts .entry)) → (x : ℕ) → x < 256 → getD (now (table .exit)) x 0 ≡ latest pair x l) ⌝ }
 {
     let mut q = facts[Log::VALUES] as usize;
     while 0 < q {

@@ -19,12 +19,12 @@ use Rattle.lattice.proofs.Cuts.{join-at, join-left, join-least}
 use Rattle.lattice.proofs.Consistency.{join-consistent, clock-consistent, clock-own, clock-least}
 use Rattle.lattice.proofs.Structures.{Least}
 use Rattle.lattice.proofs.Shortcuts.{least-same}
-use Rattle.lattice.proofs.Messages.{sentBy-iff, Clear, clear-least}
+use Rattle.lattice.proofs.Messages.{Received, sentBy-iff, Clear, clear-least}
 
 module _ (K : Computation) (ok : Valid K) (i j : ℕ) where
   -- The messages of the list from i to j that are sent by event x are received by event k.
   abbrev By : ℕ → ℕ → List Message → Type 0
-  By x k l = All (λ m. m .sender ≡ i → m .receiver ≡ j → m .sent ≤ x → (1 ≤ m .received) × (m .received ≤ k)) l
+  By x k l = All (Received i j x k) l
 
   -- What is due by event x of i: an event of j by which all is received, and that every clear cut with event x holds.
   abbrev pub Due : ℕ → List Message → Option ℕ → Type 0

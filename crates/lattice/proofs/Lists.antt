@@ -5,7 +5,7 @@ use Prim.Native.Nat.{ℕ, zero, suc, _<_}
 use native.Mathlib.Omega.{arith}
 use mathlib.Core.List.{List, [], _∷_, _++_, map}
 use mathlib.Core.Option.{some}
-use lib.ListN.{length, getD, getElem?}
+use lib.ListN.{length, getD, getElem?, drop}
 use Rattle.model.specs.Lists.{Some, Member}
 use Rattle.model.specs.Lists.Some.{here, there}
 
@@ -108,6 +108,17 @@ pub all-elem : {A : Type 0} {G : A → Type 0} (l : List A) → All G l → (i :
 all-elem [] a i x e = let z : _≡_ {A = ℕ} 0 1 = cc in absurd (omega arith)
 all-elem {G = G} (y ∷ l) (also p a) zero x e = let q : y ≡ x = cc in subst G q p
 all-elem (y ∷ l) (also p a) (suc i) x e = all-elem l a i x e
+
+-- And back.
+pub all-elems : {A : Type 0} {G : A → Type 0} (l : List A) → ((i : ℕ) (x : A) → getElem? l i ≡ some x → G x) → All G l
+all-elems [] f = done
+all-elems (x ∷ l) f = also (f 0 x refl) (all-elems l (λ i. f (suc i)))
+
+-- There is one at each place within the list, and those behind it.
+pub elem-there : {A : Type 0} (l : List A) (i : ℕ) → i < length l → (x : A) × (getElem? l i ≡ some x) × (drop i l ≡ x ∷ drop (suc i) l)
+elem-there [] i h = absurd (omega arith)
+elem-there (x ∷ l) zero h = (x, refl, refl)
+elem-there (x ∷ l) (suc i) h = elem-there l i (omega arith)
 
 -- What stands at a place stands within the list.
 pub some-below : {A : Type 0} (l : List A) (i : ℕ) (x : A) → getElem? l i ≡ some x → i < length l

@@ -24,9 +24,13 @@ use Rattle.lattice.proofs.Consistency.{join-consistent, meet-consistent
 use Rattle.lattice.proofs.Structures.{Least, Regular}
 use Rattle.lattice.proofs.Sets.{raiseTo-least, join-own}
 
--- If the message is one from i to j and sent at c, it is received at c.
+-- If the message is one from i to j and sent by event x of i, it is received by event k of j.
+abbrev pub Received : ℕ → ℕ → ℕ → ℕ → Message → Type 0
+Received i j x k m = m .sender ≡ i → m .receiver ≡ j → m .sent ≤ x → (1 ≤ m .received) × (m .received ≤ k)
+
+-- If it is sent at c, it is received at c.
 abbrev pub Arrived : ℕ → ℕ → Cut → Message → Type 0
-Arrived i j c m = m .sender ≡ i → m .receiver ≡ j → m .sent ≤ c ! i → (1 ≤ m .received) × (m .received ≤ c ! j)
+Arrived i j c = Received i j (c ! i) (c ! j)
 
 -- What the test says.
 pub sentBy-iff : (i j x : ℕ) (m : Message) → (sentBy i j x m ≡ true) ↔ (((m .sender ≡ i) × (m .receiver ≡ j)) × (m .sent ≤ x))

@@ -21,15 +21,16 @@ front-same a b n h l e =
     ext-getD 0 (take n a) (take n b) (x ∙ sym y) (λ i k. getD-take n a i 0 (omega arith) ∙ e i (omega arith) ∙ sym (getD-take n b i 0 (omega arith)))
 
 -- The numbers of a message put at a place.
-pub put-message : (t d : List ℕ) (from at i x j k : ℕ) → at + 3 ≤ length d → i ≡ getD t from 0 → (x ≡ getD t (from + 1) 0) × (x < 256) → (j ≡ getD t (from + 2) 0) × (j < 256) → k ≡ getD t (from + 3) 0
+pub put-message : (t d : List ℕ) (from at i x j k : ℕ) → at + 3 ≤ length d → i ≡ getD t from 0 → (x ≡ getD t (from + 1) 0) × (x < 256) → (j ≡ getD t (from + 2) 0) × (j < 256) → (k ≡ getD t (from + 3) 0) × (k < 256)
     → Copied t from d (set (set (set d at (256 * i + j)) (at + 1) x) (at + 2) k) at
 put-message t d from at i x j k h i-is x-is j-is k-is = record {
   entered = record {
     pair = getD-set-other d₂ (at + 2) at k 0 (λ e. omega arith) ∙ getD-set-other d₁ (at + 1) at x 0 (λ e. omega arith) ∙ getD-set-same d at (256 * i + j) 0 (omega arith) ∙ omega (arith, j-is .0);
     sent = getD-set-other d₂ (at + 2) (at + 1) k 0 (λ e. omega arith) ∙ getD-set-same d₁ (at + 1) x 0 (simp length-set (omega arith)) ∙ x-is .0;
-    received = getD-set-same d₂ (at + 2) k 0 (simp length-set (omega arith)) ∙ k-is;
-    low = omega (arith, j-is .0, j-is .1);
+    received = getD-set-same d₂ (at + 2) k 0 (simp length-set (omega arith)) ∙ k-is .0;
+    receiver-low = omega (arith, j-is .0, j-is .1);
     sent-low = omega (arith, x-is .0, x-is .1);
+    received-low = omega (arith, k-is .0, k-is .1);
   };
   before = λ y l. getD-set-other d₂ (at + 2) y k 0 (λ e. omega arith) ∙ getD-set-other d₁ (at + 1) y x 0 (λ e. omega arith) ∙ getD-set-other d at y (256 * i + j) 0 (λ e. omega arith);
 }
@@ -55,8 +56,9 @@ filled-more t d₀ d d′ q from e f c = record {
       pair = c .before (messageAt i) (omega arith) ∙ g .pair;
       sent = c .before (messageAt i + 1) (omega arith) ∙ g .sent;
       received = c .before (messageAt i + 2) (omega arith) ∙ g .received;
-      low = g .low;
+      receiver-low = g .receiver-low;
       sent-low = g .sent-low;
+      received-low = g .received-low;
     }
 
     new : (i : ℕ) → i ≡ q → Entered t (messageSlot i) d′ (messageAt i)
@@ -66,7 +68,7 @@ pub numbered : (t d₀ d : List ℕ) (k v : ℕ) → factsSize ≤ length d → 
 numbered t d₀ d k v h f = (
   getD-set-same d valuesSize v 0 (omega arith),
   record {
-    each = λ q l. let g = f .each q l in record { pair = other (messageAt q) (omega arith) ∙ g .pair; sent = other (messageAt q + 1) (omega arith) ∙ g .sent; received = other (messageAt q + 2) (omega arith) ∙ g .received; low = g .low; sent-low = g .sent-low };
+    each = λ q l. let g = f .each q l in record { pair = other (messageAt q) (omega arith) ∙ g .pair; sent = other (messageAt q + 1) (omega arith) ∙ g .sent; received = other (messageAt q + 2) (omega arith) ∙ g .received; receiver-low = g .receiver-low; sent-low = g .sent-low; received-low = g .received-low };
     before = λ i l. getD-set-other d valuesSize i v 0 (λ z. omega arith) ∙ f .before i l;
   },
 )
@@ -80,8 +82,9 @@ filed {t} {d} m from at e g = record {
   pair = omega (arith, g .pair, rw (add-zero from) at (byte 0 (m .sender) (omega arith) refl), byte 2 (m .receiver) (omega arith) refl);
   sent = g .sent ∙ byte 1 (m .sent) (omega arith) refl;
   received = g .received ∙ byte 3 (m .received) (omega arith) refl;
-  low = omega (arith, g .low, byte 2 (m .receiver) (omega arith) refl);
+  receiver-low = omega (arith, g .receiver-low, byte 2 (m .receiver) (omega arith) refl);
   sent-low = omega (arith, g .sent-low, byte 1 (m .sent) (omega arith) refl);
+  received-low = omega (arith, g .received-low, byte 3 (m .received) (omega arith) refl);
 }
   where
     byte : (i v : ℕ) → i < messageSize → getD (messageBytes m) i 0 ≡ v → getD t (from + i) 0 ≡ v

@@ -147,11 +147,13 @@ module _ {K : Computation} {n m : ℕ} {counts t : List ℕ} (g : StoredValid K 
 
       pub faced : (d₀ d : List ℕ) → factsSize ≤ length d₀ → length d ≡ length d₀ → m ≤ limits .messages → take (e + n) d₀ ≡ valuesIn t counts n → (getD d valuesSize 0 ≡ m) × Filled t m d₀ d → Facts K x d
       faced d₀ d b l few-m p f = record {
-        facts-fit = omega arith;
         values-are = λ j k h o. rw (← counts-full) (values-laid d (rw t-is (sym same ∙ p)) j k h o);
-        few-messages = rw (g .messages) few-m;
-        messages-counted = f .0 ∙ sym (g .messages);
-        messages-are = λ q y h. filed y (messageSlot q) (messageAt q) (g .posted .at q y h) (f .1 .each q (rw (g .messages) at (some-below (K .messages) q y h)));
+        filed = record {
+          fit = omega arith;
+          few = rw (g .messages) few-m;
+          number = f .0 ∙ sym (g .messages);
+          each = λ q y h. filed y (messageSlot q) (messageAt q) (g .posted .at q y h) (f .1 .each q (rw (g .messages) at (some-below (K .messages) q y h)));
+        };
       }
         where
           same : take (e + n) d₀ ≡ take (e + n) d

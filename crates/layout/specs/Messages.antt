@@ -7,13 +7,14 @@ use Rattle.model.specs.Limits.{valuesSize}
 use Rattle.table.specs.Table.{messageSlot}
 use Rattle.structure.specs.Laid.{pairOf, messageAt}
 
--- The message that begins with byte `from` of the store t stands at a place of d.
+-- The message that begins with byte `from` of the store t stands at a place of d; its numbers are bytes.
 pub record Entered (t : List ℕ) (from : ℕ) (d : List ℕ) (at : ℕ) : Type 0 where
   pub pair : getD d at 0 ≡ pairOf (getD t from 0) (getD t (from + 2) 0)
   pub sent : getD d (at + 1) 0 ≡ getD t (from + 1) 0
   pub received : getD d (at + 2) 0 ≡ getD t (from + 3) 0
-  pub low : getD t (from + 2) 0 < 256
+  pub receiver-low : getD t (from + 2) 0 < 256
   pub sent-low : getD t (from + 1) 0 < 256
+  pub received-low : getD t (from + 3) 0 < 256
 
 -- It was put there: what stands before the place in d₀ stands so in d.
 pub record Copied (t : List ℕ) (from : ℕ) (d₀ d : List ℕ) (at : ℕ) : Type 0 where

@@ -17,7 +17,7 @@ use Rattle.model.specs.Cut.{Cut}
 use Rattle.model.specs.Computation.{stations, count, eventCount, full, isConsistent}
 use Rattle.model.specs.Promise.{Asked}
 use Rattle.lattice.proofs.Consistency.{consistent-iff}
-use Rattle.lattice.proofs.Lists.{all-at, some-below}
+use Rattle.lattice.proofs.Lists.{all-at, elem-there, some-below}
 use Rattle.codec.specs.Limits.{NoLarger}
 use Rattle.codec.proofs.Bytes.{Bytes, bytes-tail}
 use Rattle.codec.proofs.Formulas.{prefix-formula}
@@ -35,9 +35,7 @@ use Rattle.frames.specs.Asks.{Asks}
 -- There is a question at each number below their count, and none from there on.
 
 pub question-there : (l : List Formula) (q : ℕ) → q < length l → (f : Formula) × (getElem? l q ≡ some f)
-question-there [] q h = absurd (omega arith)
-question-there (f ∷ l) zero h = (f, refl)
-question-there (f ∷ l) (suc q) h = question-there l q (omega arith)
+question-there l q h = let e = elem-there l q h in (e .0, e .1)
 
 pub no-question : (l : List Formula) (q : ℕ) → length l ≤ q → getElem? l q ≡ none
 no-question [] q h = refl

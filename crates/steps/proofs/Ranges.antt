@@ -17,7 +17,7 @@ use Rattle.steps.proofs.Atoms as atoms
 module _ (K : Computation) (shape : Shape) (starts : List ℕ) (laid : Laid K shape starts) (s : ℕ) (h : s < shape .n)
     (values : List ℕ) (facts : Facts K shape values) where
   pub values-fit : getD (shape .offs) s 0 + s + getD (shape .counts) s 0 < length values
-  values-fit = omega (arith, own-fit K shape starts laid s h, facts .facts-fit, laid .shaped .few-events, laid .shaped .few-stations)
+  values-fit = omega (arith, own-fit K shape starts laid s h, facts .filed .fit, laid .shaped .few-events, laid .shaped .few-stations)
 
   module _ (b : Bool) (lo hi : ℕ) (table : List ℕ)
       (tab : (k : ℕ) → k < 256 → getD table k 0 ≡ entry (λ j. passes b lo hi (getD values (getD (shape .offs) s 0 + s + j) 0)) (getD (shape .counts) s 0) k) where

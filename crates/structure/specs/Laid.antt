@@ -32,21 +32,26 @@ pairOf i j = 256 * i + j
 abbrev pub messageAt : ℕ → ℕ
 messageAt q = valuesSize + 1 + 3 * q
 
--- The message m stands at a place of the facts: its pair, the event that sends it, the event that receives it.
+-- The message m stands at a place of the facts: its pair, the event that sends it, the event that receives it; its numbers are bytes.
 pub record Filed (m : Message) (facts : List ℕ) (at : ℕ) : Type 0 where
   pub pair : getD facts at 0 ≡ pairOf (m .sender) (m .receiver)
   pub sent : getD facts (at + 1) 0 ≡ m .sent
   pub received : getD facts (at + 2) 0 ≡ m .received
-  pub low : m .receiver < 256
+  pub receiver-low : m .receiver < 256
   pub sent-low : m .sent < 256
+  pub received-low : m .received < 256
 
--- What atoms look at: each station's first value and those of its events, station by station; the number of messages, and each message.
+-- The messages stand in the facts: their number behind the values, and each of them behind it.
+pub record AllFiled (messages : List Message) (facts : List ℕ) : Type 0 where
+  pub fit : factsSize ≤ length facts
+  pub few : length messages ≤ limits .messages
+  pub number : getD facts valuesSize 0 ≡ length messages
+  pub each : (q : ℕ) (m : Message) → getElem? messages q ≡ some m → Filed m facts (messageAt q)
+
+-- What atoms look at: each station's first value and those of its events, station by station; and the messages.
 pub record Facts (K : Computation) (x : Shape) (facts : List ℕ) : Type 0 where
-  pub facts-fit : factsSize ≤ length facts
   pub values-are : (j k : ℕ) → j < x .n → k ≤ count K j → getD facts (total (take j (full K)) + j + k) 0 ≡ value K j k
-  pub few-messages : length (K .messages) ≤ limits .messages
-  pub messages-counted : getD facts valuesSize 0 ≡ length (K .messages)
-  pub messages-are : (q : ℕ) (m : Message) → getElem? (K .messages) q ≡ some m → Filed m facts (messageAt q)
+  pub filed : AllFiled (K .messages) facts
 
 -- K is laid out, with what its atoms look at.
 abbrev pub Given : Computation → Shape → List ℕ → List ℕ → Type 0

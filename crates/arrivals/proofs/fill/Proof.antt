@@ -27,7 +27,7 @@ cast-mark c = search needs
 mark-requires : tie.Need-mark-requires
 mark-requires c κs =
     let p = c .before .before .before .before .before .before .before .pre in
-    (p .1 .2, (p .0 .0 .messages, entries.listed _ _ _ (p .0 .1) _ (p .0 .2)))
+    (p .1 .2, (p .0 .0 .messages, p .0 .2 .filed))
 
 gather-requires : tie.Need-gather-requires
 gather-requires c κs =
@@ -52,7 +52,7 @@ settle-requires c κs =
       w .wide .ensures .1,
       omega (arith, c .wide2 .ensures .0, own-fit _ _ _ (p .0 .1) (a .j) (p .1 .1), p .0 .1 .shaped .few-events),
       entries.gathered-known _ _ _ (p .0 .1) _ _ (p .1 .0) (p .1 .1) _ _ (w .wide .ensures .0) (c .wide2 .ensures .0) _ (p .0 .2) (m .mark .last .0) (g .gather .last .0)
-          (m .mark .ensures (p .0 .0 .messages) (entries.listed _ _ _ (p .0 .1) _ (p .0 .2))) (g .gather .ensures .0),
+          (m .mark .ensures (p .0 .0 .messages) (p .0 .2 .filed)) (g .gather .ensures .0),
     )
 
 same-length : tie.Need-same-length
@@ -67,7 +67,7 @@ returns c =
     let p = w .before .before .before .before .before .before .pre in
     λ K laid facts.
     entries.arrivals K _ _ laid _ _ (p .1 .0) (p .1 .1) _ _ (w .wide .ensures .0) (s .before .wide2 .ensures .0) _ facts (m .mark .last .0) (g .gather .last .0)
-    (m .mark .ensures (K .messages) (entries.listed K _ _ laid _ facts)) (g .gather .ensures .0) _ (g .gather .ensures .1) (s .settle .ensures .0) (s .settle .ensures .1)
+    (m .mark .ensures (K .messages) (facts .filed)) (g .gather .ensures .0) _ (g .gather .ensures .1) (s .settle .ensures .0) (s .settle .ensures .1)
 
 pub fill-spec : {M : Type 1} → statement M
 fill-spec =

@@ -7,7 +7,8 @@ use lib.ListN.{length, getD, drop, length-set, length-replicate}
 use Rattle.model.specs.Limits.{limits}
 use Rattle.model.specs.Computation.{Message}
 use Rattle.structure.specs.Laid.{messageAt}
-use Rattle.arrivals.specs.Table.{Listed, latest}
+use Rattle.structure.specs.Laid.{AllFiled}
+use Rattle.arrivals.specs.Table.{latest}
 use Rattle.arrivals.proofs.Marks as marks
 use borrow.Author.Needs.{needs}
 use Rattle.arrivals.proofs.mark.Statement.{statement}
@@ -15,7 +16,7 @@ use Rattle.arrivals.proofs.mark.Tie as tie
 
 abbrev Inv-loop : tie.InvT-loop
 Inv-loop table₀ facts pair q₀ table q =
-    (length table ≡ 256) × ((l : List Message) → Listed l facts → (q ≤ length l) × ((x : ℕ) → x < 256 → getD table x 0 ≡ latest pair x (drop q l)))
+    (length table ≡ 256) × ((l : List Message) → AllFiled l facts → (q ≤ length l) × ((x : ℕ) → x < 256 → getD table x 0 ≡ latest pair x (drop q l)))
 
 abbrev μ-loop : tie.MeasureT-loop
 μ-loop table₀ facts pair q₀ table q = q
@@ -35,7 +36,7 @@ sub-q : tie.Need-sub-q Inv-loop μ-loop
 sub-q c = search needs
 
 -- The message that is looked at is one of the list.
-below : (c : tie.In-loop Inv-loop μ-loop) (l : List Message) → Listed l (c .before .before .before .before .before .args .facts .now) → c .before .loop .q - 1 < length l
+below : (c : tie.In-loop Inv-loop μ-loop) (l : List Message) → AllFiled l (c .before .before .before .before .before .args .facts .now) → c .before .loop .q - 1 < length l
 below c l n = omega (arith, c .before .loop .inv .1 l n .0, c .loop-test .taken)
 
 few : (c : tie.In-loop Inv-loop μ-loop) → c .before .loop .q ≤ limits .messages
