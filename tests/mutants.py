@@ -1,7 +1,8 @@
 #!/usr/bin/env python3
 """Tries wrong rules in the independent implementation, and reports how many logs of the corpus tell each apart.
 
-Usage: mutants.py      from the repository's root; exit code 1 if fewer than ten logs tell a rule apart
+Usage: mutants.py          from the repository's root; exit code 1 if fewer than ten logs tell a rule apart
+       mutants.py --soon   the same, but a rule is tried on no more logs once thirty have told it apart
 """
 import pathlib
 import subprocess
@@ -11,6 +12,7 @@ import tempfile
 from frames import parted
 
 LEAST = 10
+ENOUGH, SHARES = 30, 24  # for --soon: a rule is tried on one share of the logs after another, each log of a share so many behind the one before
 CASES, SOURCE = pathlib.Path("crates/cases"), pathlib.Path("tests/compare/src")
 PARTS = ["fault", "formula", "log", "basis", "operations"]  # each uses only those before it
 
@@ -244,7 +246,23 @@ def answers(folder, i, logs):
     return tuple(run.stdout.split(b".\n")[:-1])
 
 
+def told_apart(folder, i, logs, expected, soon):
+    """How many logs tell the wrong rule apart, and of how many."""
+    told, tried = 0, 0
+    shares = SHARES if soon else 1
+    for k in range(shares):
+        wanted = expected[k::shares]
+        told += sum(a != b for a, b in zip(answers(folder, i, logs[k::shares]), wanted, strict=True))
+        tried += len(wanted)
+        if told >= ENOUGH and soon:
+            break
+    return told, tried
+
+
 def main():
+    soon = sys.argv[1:] == ["--soon"]
+    if sys.argv[1:] and not soon:
+        sys.exit(__doc__)
     logs, expected = corpus()
     few = False
     with tempfile.TemporaryDirectory() as name:
@@ -252,11 +270,11 @@ def main():
         build(folder)
         if answers(folder, 0, logs) != expected:
             sys.exit("the implementation as it stands does not print what is expected")
-        print(f"{'wrong rule':36} told apart by, of {len(expected)} logs")
+        print(f"{'wrong rule':36} told apart by, of {len(expected)} logs{' or fewer' if soon else ''}")
         for i, rule in enumerate(RULES, 1):
-            told = sum(a != b for a, b in zip(answers(folder, i, logs), expected, strict=True))
+            told, tried = told_apart(folder, i, logs, expected, soon)
             few = few or told < LEAST
-            print(f"{rule:36} {told}{', too few' if told < LEAST else ''}", flush=True)
+            print(f"{rule:36} {told}{f' of {tried}' if soon else ''}{', too few' if told < LEAST else ''}", flush=True)
     sys.exit(1 if few else 0)
 
 
