@@ -6,8 +6,8 @@ it, never as rows, so that no code or shape is shared with the product. Where th
 import sys
 from functools import cache
 
-from bench_cases import ALL, CONVEYORS, ZERO, chain, ladder
-from frames import Draw, asked_of, atom, case, computation, formula, log_of, sendings, with_clear
+from bench_cases import ALL, CONVEYORS, OUTLINES, ZERO, chain, ladder
+from frames import Draw, asked_of, atom, case, computation, drawn_panels, formula, log_of, sendings, with_clear, with_panel
 from listing import OPERATIONS, PROGRAM, Listing, Refused, Walk, admit, answer_line, answers, contained, cuts, read, stations, true_at
 
 LISTED = 500
@@ -149,11 +149,12 @@ def empty(d, n):
 
 
 def question(d, log, pairs):
-    """A question that the log takes in; with tokens 07 if there are pairs of stations to ask about."""
+    """A question that the log takes in; with tokens 07 if there are pairs of stations to ask about, and with 08 under header 11."""
     n = len(log.initial)
     while True:
         q = d.pick([wide, wide, wide, barred, barred, empty, lambda d, n: formula(d, n, 5, 8)])(d, n)
         q = with_clear(d, q, pairs) if pairs else q
+        q = with_panel(d, q) if log.header == 0x11 else q
         try:
             admit(log, [0x30] + q)
         except Refused:
@@ -168,10 +169,11 @@ def questioned(d, frames, questions):
     return log_of(frames + [[0x30] + question(d, log, pairs) for _ in range(questions)])
 
 
-def drawn(d, n, events, questions, messages=0):
-    """A computation of n stations that know of each other, messages named or none, and questions."""
+def drawn(d, n, events, questions, messages=0, panels=False):
+    """A computation of n stations that know of each other, messages named or none, panels or none, and questions."""
     frames = computation(d, n, events, 8, 2)[0]
-    return questioned(d, frames + (sendings(d, frames, messages) if messages else []), questions)
+    frames += sendings(d, frames, messages) if messages else []
+    return questioned(d, drawn_panels(d, frames, 8)[0] if panels else frames, questions)
 
 
 def logs(seed):
@@ -186,6 +188,9 @@ def logs(seed):
     for n, events, messages in ((2, 12, 8), (3, 15, 12), (4, 16, 20), (5, 12, 6), (2, 127, 64), (5, 90, 40), (8, 127, 64)):
         yield drawn(d, n, events, 16, messages)
     yield from CONVEYORS
+    for n, events, messages in ((1, 7, 0), (2, 12, 0), (3, 15, 12), (5, 60, 0), (8, 127, 64)):
+        yield drawn(d, n, events, 16, messages, True)
+    yield from OUTLINES
     yield b"\n"
     yield chain(PROGRAM.events + 1)
 

@@ -1,7 +1,7 @@
 """The cases of document 01's bench section and limits for Forecast, Answer, Holds and the program, and what is to come of each."""
 import sys
 
-from frames import ONE, WORKSPACE, atom, case, clear, in_turn, log_of, message
+from frames import ONE, WORKSPACE, atom, case, clear, in_turn, log_of, message, panel
 from listing import OPERATIONS, Listing, Refused, answer_line, encode, forecast, printed, read
 
 Q = [3] + atom(0, 5, 5) + atom(1, 1, 1)
@@ -85,8 +85,36 @@ SENT = [
     (BOTH_SEEN, [message(0, 1, 1, 2), message(0, 2, 1)]),
 ]
 CONVEYORS = [log + log_of(messages + [[0x30] + q for q in CLEAR]) for log, messages in SENT]
-# Messages and a question of the bench log, and what is printed, worked out by hand.
-BY_HAND = [
+# The bench log with panels, which are of the same numbers as its values: 5 and then 0 at station 0, 2 twice and then 0 at station 1.
+HEADER11, EVENTS11 = [0x11, 2, 0, 0, 0, 5, 0, 0, 0, 2], [[0x20, 0, 0, 5, 0, 0, 1, 0], [0x20, 1, 0, 1, 0, 2, 0, 1], [0x20, 1, 0, 2, 0, 0, 1, 2]]
+HEAD11 = log_of([HEADER11] + EVENTS11)
+# Header 11 of the length of 10, header 10 of the length of 11, and each header with the other one's events.
+SHORT_HEADER, LONG_HEADER = log_of([HEADER11[:-4]] + EVENTS11), log_of([[0x10] + HEADER11[1:]] + EVENTS11)
+SHORT_EVENT, LONG_EVENT = encode(HEADER11) + HEAD.partition(b"\n")[2], log_of([[0x10, 2, 0, 0, 0, 0]] + EVENTS11)
+# Questions about panels: of the header, of an event, of two stations, beside values and messages, and through zero.
+PANELS = [
+    panel(0, 5, 5),
+    [2] + panel(0, 5, 5),
+    panel(1, 2, 2),
+    [2] + panel(1, 0, 1),
+    [5] + panel(1, 0, 0),
+    [6] + panel(1, 2, 2),
+    [2, 6] + panel(0, 0, 0),
+    [2, 5] + panel(0, 5, 5),
+    [3] + atom(0, 5, 5) + panel(1, 2, 2),
+    [3] + panel(0, 0, 0) + panel(1, 0, 0),
+    [4, 3] + panel(0, 5, 5) + atom(1, 1, 1) + [3] + panel(0, 0, 0) + [2] + panel(1, 2, 2),
+    [3] + panel(0, 0, 4) + [3] + clear() + atom(1, 1, 2),
+    panel(1, 5, 1),
+    [2] + panel(1, 5, 1),
+    [6, 4] + panel(0, 5, 4) + panel(1, 1, 0),
+    [3] + panel(1, 2, 2) + [6, 2] + Q,
+]
+# Header and events, and messages, with every panel 0 and with panels.
+PANELLED = [(HEAD, []), (HEAD11, []), (HEAD11, [RECEIVED]), (HEAD11, [NEVER])]
+OUTLINES = [log + log_of(messages + [[0x30] + q for q in PANELS]) for log, messages in PANELLED]
+# Header and events, messages and a question of the bench log, and what is printed, worked out by hand.
+BY_HAND = [(HEAD, *worked_out) for worked_out in [
     ([], clear(), b"400101010200000000BB\n"),
     ([RECEIVED], clear(), b"400101010200000000BB\n"),
     ([NEVER], clear(), b"400101000100000000BD\n"),
@@ -99,6 +127,32 @@ BY_HAND = [
     ([RECEIVED], clear(0, 2), b"50080006A2\n"),
     ([message(0, 1, 1, 1)], clear(), b"500F00059C\n"),
     ([message(0, 0, 1, 2)], clear(), b"500F00059C\n"),
+]]
+PANELS_BY_HAND = [
+    (HEAD, [], panel(0, 0, 0), b"400101010200000000BB\n"),
+    (HEAD, [], panel(0, 5, 5), b"40000000000000C0\n"),
+    (HEAD, [], [2] + panel(1, 1, 2), b"400101010200000000BB\n"),
+    (HEAD, [], [3] + atom(0, 5, 5) + panel(1, 5, 4), b"400001010200000006B6\n"),
+    (HEAD, [], panel(2, 0, 0), b"50080005A3\n"),
+    (HEAD11, [], Q, b"400001010100000007B6\n"),
+    (HEAD11, [], panel(0, 5, 5), b"400101000100000000BD\n"),
+    (HEAD11, [], [2] + panel(0, 5, 5), b"400001010200000000BC\n"),
+    (HEAD11, [], [3] + atom(0, 5, 5) + panel(1, 2, 2), b"400001010100000006B7\n"),
+    (HEAD11, [], [3] + panel(0, 0, 0) + panel(1, 0, 0), b"400001010200000007B5\n"),
+    (HEAD11, [], panel(1, 5, 1), b"400001010200000000BC\n"),
+    (HEAD11, [], [2] + panel(1, 5, 1), b"400101010100000000BC\n"),
+    (HEAD11, [], [6] + panel(1, 2, 2), b"40000000000000C0\n"),
+    (HEAD11, [], panel(2, 0, 0), b"50080005A3\n"),
+    (HEAD11, [], panel()[:-1], b"50080005A3\n"),
+    (HEAD11, [NEVER], [3] + panel(0, 5, 5) + clear(), b"400101000100000004B9\n"),
+    (HEAD11, [RECEIVED], [3] + panel(0, 5, 5) + [2] + clear(), b"501000069A\n"),
+    (HEAD11, [message(0, 1, 1, 1)], panel(), b"500F00059C\n"),
+    (SHORT_HEADER, [], panel(), b"50050001AA\n"),
+    (LONG_HEADER, [], panel(), b"50050001AA\n"),
+    (SHORT_EVENT, [], panel(), b"50060002A8\n"),
+    (LONG_EVENT, [], panel(), b"50060002A8\n"),
+    (HEAD11 + encode(HEADER11), [], panel(), b"50040005A7\n"),
+    (HEAD + encode(HEADER11), [], panel(), b"50040005A7\n"),
 ]
 
 
@@ -182,7 +236,7 @@ LOGS = (BENCH, ALL, ZERO, HEAD, b"", b"\n", WIDE18, chain(127), chain(128), chai
         chain(254), chain(255))
 LACKING, NEGATED = HEAD + log_of([message(0, 1, 1, 1), [0x30] + Q]), HEAD + log_of([RECEIVED, [0x30] + Q, [0x30, 2] + clear()])
 MESSAGES_65 = HEAD + log_of([RECEIVED] * 65 + [[0x30] + Q])
-REFUSED = (BENCH[:-1], b"", BENCH.lower(), WIDE18, chain(255), LACKING, NEGATED, MESSAGES_65)
+REFUSED = (BENCH[:-1], b"", BENCH.lower(), WIDE18, chain(255), LACKING, NEGATED, MESSAGES_65, SHORT_HEADER, SHORT_EVENT)
 
 
 def forecasts():
@@ -223,32 +277,36 @@ def rooms():
     yield holds(deep(8, 254), 0, [0] * 8)
 
 
-def by_hand():
-    """The messages and questions that were worked out by hand, which the listing has to agree with."""
-    for messages, q, line in BY_HAND:
-        data = HEAD + log_of(messages + [[0x30] + q])
+def by_hand(worked_out):
+    """The logs that were worked out by hand, which the listing has to agree with."""
+    for head, messages, q, line in worked_out:
+        data = head + log_of(messages + [[0x30] + q])
         if printed(data) != line:
             sys.exit(f"{line} by hand, {printed(data)} by the listing: {messages}, {q}")
         yield data, line
 
 
-def conveyors():
-    """Questions about messages one by one: Answer, and Holds at every consistent cut and at one that is not; Forecast, which depends on
-    no message, and the cells about it."""
-    for log, messages in SENT:
-        for f in CLEAR:
+def one_by_one(logs, questions, closely):
+    """Questions one by one: Answer, and Holds at every consistent cut and at one that is not; of one log Forecast, which depends on no
+    message and no panel, and the cells about it."""
+    for log, messages in logs:
+        for f in questions:
             data = log + log_of(messages + [[0x30] + f])
             yield answer(data, 0)
             for cut in [*Listing(asked(data, 0)[0]).cuts, (0, 2)]:
                 yield holds(data, 0, cut)
-            if messages == [RECEIVED]:
+            if (log, messages) == closely:
                 yield foretells(data, 0)
                 for cells in about(data, 0):
                     yield answer(data, 0, cells)
                     yield holds(data, 0, (1, 2), cells)
-    for data in CONVEYORS:
+
+
+def in_each_way(logs, worked_out):
+    """What the program prints for logs, and each operation besides for those that were worked out by hand."""
+    for data in logs:
         yield program(data)
-    for data, _ in by_hand():
+    for data, _ in by_hand(worked_out):
         yield program(data)
         yield foretells(data, 0)
         yield answer(data, 0)
@@ -267,4 +325,7 @@ def cases():
     yield from rooms()
     for q in (0, 1):
         yield answer(ladder(3, 24), q)
-    yield from conveyors()
+    yield from one_by_one(SENT, CLEAR, (HEAD, [RECEIVED]))
+    yield from in_each_way(CONVEYORS, BY_HAND)
+    yield from one_by_one(PANELLED, PANELS, (HEAD11, [RECEIVED]))
+    yield from in_each_way(OUTLINES, PANELS_BY_HAND)

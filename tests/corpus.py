@@ -4,6 +4,7 @@ Logs have 1 to 4 stations, up to 8 events and questions nested up to 5 deep; abo
 names. Some more meet its limits: 16 cuts, structures and bars, over 65,535 rounds, 65 rounds a start, 0 and 9 stations; and some ask
 about ranges through zero. The last are about the most events and bytes.
 """
+import sys
 from itertools import count, islice
 
 import large
@@ -12,7 +13,7 @@ from bench_cases import foretold
 from frames import ONE, Draw, atom, case, computation, drawn_atom, formula, log_of, word
 from listing import OPERATIONS, PROGRAM, Refused, encode, printed, read
 
-SMALL, EDGES, ENDS, ZERO = 4800, 80, 12, 200
+SMALL, EDGES, ENDS, ZERO, LEAST = 4800, 80, 12, 200, 10
 
 
 def moments(d, seen):
@@ -65,7 +66,7 @@ def damaged(d, fs):
     elif way == 6 and len(f) > 1:
         f.pop()
     elif way == 7 and f[0] == 0x20:
-        j = 4 + d.below(n)
+        j = len(f) - n + d.below(n)
         f[j] = (f[j] + d.pick([1, 255, 2])) % 256
     elif way == 8 and f[0] == 0x20:
         f[1] = n
@@ -97,6 +98,16 @@ def spoiled(d, log):
     else:
         log += b"00" * d.pick([1, 2, 50, 100, 101]) + b"\n"
     return bytes(log)
+
+
+def partly_damaged(d, drawn, k):
+    """So many logs of drawn frames, three in ten with a frame damaged, and one in ten with a byte."""
+    for _ in range(k):
+        fs, way = drawn(d), d.below(10)
+        if way < 3:
+            fs = damaged(d, fs)
+        log = log_of(fs)
+        yield spoiled(d, log) if way == 9 else log
 
 
 def ors(d, n, k):
@@ -215,12 +226,7 @@ def logs(seed):
     yield b"\n"
     yield b"0" * 8192 + b"\n"
     yield encode(ONE) * 3
-    for _ in range(SMALL - 5 - 3 * EDGES - 6 * ENDS - ZERO):
-        fs, way = frames(d), d.below(10)
-        if way < 3:
-            fs = damaged(d, fs)
-        log = log_of(fs)
-        yield spoiled(d, log) if way == 9 else log
+    yield from partly_damaged(d, frames, SMALL - 5 - 3 * EDGES - 6 * ENDS - ZERO)
     yield from edges(d)
     yield from ends(d)
     yield from islice(through_zero(d), ZERO)
@@ -244,6 +250,25 @@ def each(data):
         shown += b" refused 11 0 kept\n kept\n" + answers[q]
 
 
-def cases(seed):
-    for log in logs(seed):
+def met_by(data, meets):
+    """What a log is one of: that of meets, which gives names and whether each is met, if it is accepted, or else its refusal."""
+    try:
+        return [name for name, is_met in meets(read(data, OPERATIONS)) if is_met]
+    except Refused as r:
+        return [f"refused {r.number}"]
+
+
+def enough(what, names, met):
+    """Stops where some of these names is met by too few logs."""
+    few = [name for name in dict.fromkeys(names) if met[name] < LEAST]
+    if few:
+        sys.exit(f"too few logs with {what}: {', '.join(few)}")
+
+
+def cases_of(made):
+    for log in made:
         yield case("E", log), b"E\n" + each(log)
+
+
+def cases(seed):
+    return cases_of(logs(seed))

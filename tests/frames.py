@@ -2,7 +2,7 @@
 import re
 import sys
 
-from listing import encode, operand_sign, parse
+from listing import encode, frame_of, operand_sign, parse
 
 ONE = [0x10, 1, 0, 0]
 
@@ -19,12 +19,28 @@ def clear(i=0, j=1):
     return [7, i, j]
 
 
+def panel(s=0, lo=0, hi=1):
+    return [8] + atom(s, lo, hi)[1:]
+
+
 def message(sender, sent, receiver, received=0):
     return [0x25, sender, sent, receiver, received]
 
 
 def log_of(frames):
     return b"".join(map(encode, frames))
+
+
+def frames_of(log):
+    """The frames of a log whose lines are in order."""
+    return [list(frame_of(line)) for line in log.split(b"\n")[:-1]]
+
+
+def panelled(frames, number):
+    """Frames with header 10 as frames with header 11; number gives a station's panel, for the header and then for each of its events."""
+    (_, n, *values), *rest = frames
+    header = [0x11, n] + [b for s in range(n) for b in values[2 * s:2 * s + 2] + word(number(s))]
+    return [header] + [f[:4] + word(number(f[1])) + f[4:] if f[0] == 0x20 else f for f in rest]
 
 
 def in_turn(n, k, value):
@@ -165,11 +181,52 @@ def asked_of(d, frames):
     return [p for i, j in own for p in [(i, j)] * 4 + [(j, i), (i, i)]] + [(d.below(n), d.below(n))]
 
 
-def with_clear(d, q, pairs):
-    """A formula's bytes with tokens 07 of these pairs in place of half the 01 that are worked out as true, and of one in 16 others."""
+def drawn_panels(d, frames, panels, step=1):
+    """Frames with header 10 as frames with header 11 and so many panels, and the panels seen at each station."""
+    seen = [[] for _ in range(frames[0][1])]
+
+    def drawn(s):
+        seen[s].append(d.below(panels) * step)
+        return seen[s][-1]
+
+    return panelled(frames, drawn), seen
+
+
+SPELLED = {1: atom, 7: clear, 8: panel}
+
+
+def respelled(q, leaf):
+    """A formula's bytes with its atoms as leaf gives them, which is handed each with the sign that it is worked out in."""
     def spelled(f, sign):
-        if f[0] == 1:
-            return atom(*f[1:]) if d.below(2 if sign else 16) else clear(*d.pick(pairs))
+        if f[0] in SPELLED:
+            return leaf(f, sign)
         return [f[0]] + [b for g in f[1:] for b in spelled(g, operand_sign(f[0], sign))]
 
     return spelled(parse(q)[0], True)
+
+
+def with_clear(d, q, pairs):
+    """A formula's bytes with tokens 07 of these pairs in place of half the 01 that are worked out as true, and of one in 16 others."""
+    return respelled(q, lambda a, sign: atom(*a[1:]) if d.below(2 if sign else 16) else clear(*d.pick(pairs)))
+
+
+def of_panels(q, wanted=lambda: True):
+    """A formula's bytes with 08 in place of each 01 for which it is wanted."""
+    return respelled(q, lambda a, _: SPELLED[8 if a[0] == 1 and wanted() else a[0]](*a[1:]))
+
+
+def with_panel(d, q):
+    """A formula's bytes with 08 in place of half the 01."""
+    return of_panels(q, lambda: d.below(2))
+
+
+def turned(log, value):
+    """A log of header 10 with its values as panels, 08 in place of each 01, and values that value gives: it is to be answered as before."""
+    def frame(f):
+        if f[0] == 0x10:
+            return [0x11, f[1]] + [b for s in range(f[1]) for b in word(value()) + f[2 + 2 * s:4 + 2 * s]]
+        if f[0] == 0x20:
+            return f[:2] + word(value()) + f[2:]
+        return [0x30] + of_panels(f[1:]) if f[0] == 0x30 else f
+
+    return log_of(map(frame, frames_of(log)))

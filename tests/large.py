@@ -4,9 +4,10 @@ Where all events are of one station, or each has seen most before it, the cuts a
 """
 from bases import Rule, drawn, questioned
 from bench_cases import asked, deep, holds, ladder
-from frames import ONE, Draw, atom, case, clear, computation, in_turn, log_of, message, padded, receivers, sendings, word, wrong_check
+from frames import (ONE, Draw, atom, case, clear, computation, drawn_panels, in_turn, log_of, message, padded, panel, receivers, sendings,
+                    turned, word, wrong_check)
 from listing import OPERATIONS, PROGRAM, atoms, encode, true_at
-from read_write import LONGEST, OLD_LOG, full_log
+from read_write import FRAMES, LONGEST, OLD_LOG, full_log
 
 MOST = OPERATIONS.events
 
@@ -104,11 +105,34 @@ def with_messages(d):
         yield drawn(d, n, k, 6, messages)
 
 
+def at_panels(d, n, s):
+    """The most events, all at one station, the last panel the only one of its kind, and values as other panels."""
+    return turned(all_at(d, n, s), lambda: d.below(5))
+
+
+def with_panels(d):
+    """Such logs with panels: the most events, with the most messages and without, one more in order and of the length without panels."""
+    for n, s in [(1, 0), (2, 1), (8, 7)]:
+        yield at_panels(d, n, s)
+    for n, k, messages in [(2, 127, 64), (3, 200, 0), (8, MOST, 64)]:
+        frames = coupled(d, n, k)
+        frames += sendings(d, frames, messages) if messages else []
+        yield questioned(d, drawn_panels(d, frames, 8)[0], 4)
+    for n, k, messages in [(3, 127, 64), (8, MOST, 64)]:
+        yield drawn(d, n, k, 6, messages, True)
+    for most in (PROGRAM.events, MOST):
+        (*all_of, more), question = drawn_panels(d, chain(d, most + 1), 4)[0], [0x30] + panel(0, 1, 2)
+        for tail in [[question], [more, question], [more[:4] + more[6:]]]:
+            yield log_of(all_of + tail)
+    for name in ("the longest of 127 events with panels", "the longest with panels"):
+        yield log_of(FRAMES[name])
+
+
 # HOLDS
 
-def at_the_end(d, n, s, questions):
+def at_the_end(d, n, s, questions, log=all_at):
     """Questions at the last count that there can be, and the first one at the counts beside it."""
-    data, cut = all_at(d, n, s), lambda k: [k if j == s else 0 for j in range(n)]
+    data, cut = log(d, n, s), lambda k: [k if j == s else 0 for j in range(n)]
     for q in range(questions):
         yield holds(data, q, cut(MOST))
     yield holds(data, 0, cut(MOST - 1))
@@ -137,9 +161,19 @@ def on_the_way_among_many(d):
     yield from at_ends(log_of(frames + messages + [[0x30, 3] + atom(2, value, value) + clear(0, 1)]))
 
 
+def panels_among_many(d):
+    """Another one, and the question whether two stations are at one panel each while the first of them has a value."""
+    frames, values = computation(d, 4, MOST, 8, 2)
+    frames, panels = drawn_panels(d, frames, 8)
+    at = lambda token, s, seen: token(s, seen[s][30], seen[s][30])
+    yield from at_ends(log_of(frames + [[0x30, 3] + at(panel, 0, panels) + [3] + at(atom, 0, values) + at(panel, 3, panels)]))
+
+
 def cases(seed):
     d = Draw(seed)
     yield from at_the_end(d, 1, 0, 8)
     yield from at_the_end(d, 2, 1, 2)
     yield from among_many(d)
     yield from on_the_way_among_many(d)
+    yield from at_the_end(d, 1, 0, 3, at_panels)
+    yield from panels_among_many(d)

@@ -2,8 +2,9 @@
 the product.
 
 A log is read with the refusals of document 01 in its order. A set of cuts is the list of its cuts, so raising a cut is a search
-through that list; rounds are counted over such sets. What is on the way at a cut is a search through the list of messages. What a
-question can cost is worked out from its formula alone.
+through that list; rounds are counted over such sets. What is on the way at a cut is a search through the list of messages. A station's
+value and panel at a cut are those that its last event carries, or the header. What a question can cost is worked out from its formula
+alone.
 """
 from collections import namedtuple
 from functools import cache
@@ -12,9 +13,11 @@ from operator import le
 STATIONS, QUESTIONS, LIST = 8, 16, 8192
 Limits = namedtuple("Limits", "events log messages")  # the most events, the most bytes of a log, and the most messages
 OPERATIONS, PROGRAM = Limits(254, 16384, 64), Limits(127, 8192, 64)
+Event = namedtuple("Event", "value panel clock")
 Message = namedtuple("Message", "sender sent receiver received")  # two stations, the numbers of their events; received 0: it never came
 DIGITS = b"0123456789ABCDEF"
-ATOMS = {1: 5, 7: 2}  # the tokens that are no signs, and how many bytes follow each
+HEADERS = {0x10: 2, 0x11: 4}  # the kinds of a header, and how many bytes a value takes under each, with its panel where it has one
+ATOMS = {1: 5, 7: 2, 8: 5}  # the tokens that are no signs, and how many bytes follow each
 
 
 class Refused(Exception):
@@ -32,16 +35,18 @@ class Log:
     """What has been read so far, and by which limits."""
 
     def __init__(self, limits):
-        self.limits, self.initial, self.history, self.messages, self.questions, self.frames = limits, None, [], [], [], []
+        self.limits, self.header, self.initial, self.history = limits, None, None, []
+        self.messages, self.questions, self.frames = [], [], []
 
     def events(self):
         return sum(map(len, self.history))
 
-    def value(self, s, k):
-        return self.history[s][k - 1][0] if k else self.initial[s]
+    def event(self, s, k):
+        """Event k of a station; 0 is what the header says of it, with a clock that has none."""
+        return self.history[s][k - 1] if k else self.initial[s]
 
     def clock(self, s, k):
-        return self.history[s][k - 1][1] if k else (0,) * len(self.initial)
+        return self.event(s, k).clock
 
 
 def contained(c, d):
@@ -79,8 +84,9 @@ def true_at(log, a, c):
     """Is an atom true at a cut?"""
     if a[0] == 7:
         return not on_the_way(log, *a[1:], c)
-    _, s, lo, hi = a
-    return within(lo, hi, log.value(s, c[s]))
+    t, s, lo, hi = a
+    last = log.event(s, c[s])
+    return within(lo, hi, last.panel if t == 8 else last.value)
 
 
 def parse(q, at=0):
@@ -94,7 +100,7 @@ def parse(q, at=0):
             return None
         if t == 7:
             return (7, *q[at + 1:end]), end
-        return (1, q[at + 1], q[at + 2] * 256 + q[at + 3], q[at + 4] * 256 + q[at + 5]), end
+        return (t, q[at + 1], q[at + 2] * 256 + q[at + 3], q[at + 4] * 256 + q[at + 5]), end
     operands, at = [], at + 1
     for _ in range({2: 1, 3: 2, 4: 2, 5: 1, 6: 1}.get(t, 0)):
         got = parse(q, at)
@@ -154,7 +160,7 @@ def operand_sign(t, sign):
 def workable(f, sign):
     """Is no 07 of a formula worked out as false, where the formula is used under a sign?"""
     if f[0] in ATOMS:
-        return sign or f[0] == 1
+        return sign or f[0] != 7
     return all(workable(g, operand_sign(f[0], sign)) for g in f[1:])
 
 
@@ -199,30 +205,37 @@ def sound(log, m):
     return m.received == 0 or log.clock(m.receiver, m.received)[m.sender] >= m.sent
 
 
+def carried(b):
+    """The value and the panel that stand in two bytes or in four: with two, the panel is 0."""
+    return int.from_bytes(b[:2], "big"), int.from_bytes(b[2:], "big")
+
+
 def admit(log, f):
     """Takes one frame in, or raises its number."""
     kind, body = f[0], f[1:]
     n = len(log.initial) if log.initial is not None else 0
-    if kind == 0x10:
+    if kind in HEADERS:
         if log.initial is not None:
             raise Refused(4)
-        if not body or not 1 <= body[0] <= STATIONS or len(body) != 1 + 2 * body[0]:
+        each = HEADERS[kind]
+        if not body or not 1 <= body[0] <= STATIONS or len(body) != 1 + each * body[0]:
             raise Refused(5)
-        log.initial = [body[1 + 2 * i] * 256 + body[2 + 2 * i] for i in range(body[0])]
+        log.header = kind
+        log.initial = [Event(*carried(body[at:at + each]), (0,) * body[0]) for at in range(1, len(body), each)]
         log.history = [[] for _ in log.initial]
     elif kind == 0x20:
         if log.initial is None or log.messages or log.questions or log.events() >= log.limits.events:
             raise Refused(4)
-        if len(body) != 3 + n or body[0] >= n:
+        if len(body) != 1 + HEADERS[log.header] + n or body[0] >= n:
             raise Refused(6)
-        s, clock = body[0], tuple(body[3:])
+        s, clock = body[0], tuple(body[-n:])
         if clock[s] != len(log.history[s]) + 1:
             raise Refused(7)
         for j in range(n):
             k = clock[j] - (j == s)
             if k > len(log.history[j]) or not contained(log.clock(j, k), clock):
                 raise Refused(7)
-        log.history[s].append((body[1] * 256 + body[2], clock))
+        log.history[s].append(Event(*carried(body[1:-n]), clock))
     elif kind == 0x25:
         if log.initial is None or log.questions or len(log.messages) >= log.limits.messages:
             raise Refused(4)
@@ -303,7 +316,7 @@ class Walk:
     def __init__(self, log):
         self.log, self.rounds = log, 0
         self.empty = (0,) * len(log.initial)
-        self.starts = [self.empty] + [clock for events in log.history for _, clock in events]
+        self.starts = [self.empty] + [e.clock for events in log.history for e in events]
 
     def basis(self, f, sign):
         t = f[0]

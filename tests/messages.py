@@ -5,15 +5,15 @@ damaged as in the other corpus. Then computations in which receiving one message
 each fault of a message frame and of a question with 07, frames out of place, and 64 or 65 messages. The last are about the most events.
 What has to be met is counted.
 """
-import sys
+from collections import Counter
 
 import large
 from bases import Rule
-from corpus import damaged, each, question, spoiled
-from frames import Draw, asked_of, case, clear, computation, drawn_atom, log_of, message, receivers, sendings, with_clear, word
-from listing import OPERATIONS, Refused, atoms, on_the_way, read
+from corpus import cases_of, enough, met_by, partly_damaged, question
+from frames import Draw, asked_of, clear, computation, drawn_atom, log_of, message, receivers, sendings, with_clear, word
+from listing import OPERATIONS, atoms, on_the_way, read
 
-SMALL, BELTS, EACH, SIGNED, FULL, LEAST = 420, 90, 20, 10, 14, 10
+SMALL, BELTS, EACH, SIGNED, FULL = 420, 90, 20, 10, 14
 
 
 def sent(d, events, most):
@@ -141,12 +141,7 @@ def signed(d):
 
 def logs(seed):
     d = Draw(seed)
-    for _ in range(SMALL):
-        fs, way = frames(d), d.below(10)
-        if way < 3:
-            fs = damaged(d, fs)
-        log = log_of(fs)
-        yield spoiled(d, log) if way == 9 else log
+    yield from partly_damaged(d, frames, SMALL)
     for _ in range(BELTS):
         yield log_of(belt(d))
     for made, times in [(faulty, EACH), (out_of_place, EACH), (questions_at_fault, EACH), (signed, SIGNED), (at_limit, FULL)]:
@@ -186,20 +181,10 @@ NAMES = [*(name for name, _ in meets(read(log_of([[0x10, 1, 0, 0]]), OPERATIONS)
 
 def counted(made):
     """The logs, once each thing that they are for is met by enough of them."""
-    made, met = list(made), dict.fromkeys(NAMES, 0)
-    for data in made:
-        try:
-            names = [name for name, is_met in meets(read(data, OPERATIONS)) if is_met]
-        except Refused as r:
-            names = [f"refused {r.number}"]
-        for name in names:
-            met[name] = met.get(name, 0) + 1
-    few = [name for name in NAMES if met[name] < LEAST]
-    if few:
-        sys.exit(f"too few logs with messages: {', '.join(few)}")
+    made = list(made)
+    enough("messages", NAMES, Counter(name for data in made for name in met_by(data, meets)))
     return made
 
 
 def cases(seed):
-    for log in counted(logs(seed)):
-        yield case("E", log), b"E\n" + each(log)
+    return cases_of(counted(logs(seed)))

@@ -14,7 +14,7 @@ from frames import parted
 LEAST = 10
 ENOUGH, SHARES = 30, 24  # for --soon: a rule is tried on one share of the logs after another, each log of a share so many behind the one before
 CASES, SOURCE = pathlib.Path("crates/cases"), pathlib.Path("tests/compare/src")
-PARTS = ["fault", "formula", "log", "basis", "operations"]  # each uses only those before it
+PARTS = ["fault", "formula", "log", "basis", "operations"]  # each uses those before it; formula and log use each other
 
 # A wrong rule, and the texts that it puts in place of others.
 RULES = {
@@ -38,7 +38,7 @@ RULES = {
     "bars of the left side alone": {"left.bars.iter().chain(&right.bars).copied()": "left.bars.iter().copied()"},
     "bars lost in not possibly": {"let bars: Vec<Cut> = self.basis(f, !sign).iter().map(": "let bars: Vec<Cut> = self.basis(f, !sign).iter().take(0).map("},
     "bars kept in possibly": {"        s.bars.clear();\n": ""},
-    "range as true under not": {"within(lo, hi, v) == sign": "within(lo, hi, v)"},
+    "range as true under not": {"within(lo, hi, e.field(field)) == sign": "within(lo, hi, e.field(field))"},
     "bars not looked at by the start": {" && !s.bars.iter().any(|b| contained(c, b))": ""},
     "hi left out": {"return lo <= v && v <= hi;": "return lo <= v && (v < hi || lo == hi && v == lo);"},
     "range through zero empty": {"    lo <= v || v <= hi\n": "    false\n"},
@@ -56,7 +56,7 @@ RULES = {
     "width 17 accepted": {"if s.width > 16 {": "if s.width > 17 {"},
     "bars of and not added": {"joined(l, r, l.width * r.width, l.bars + r.bars)": "joined(l, r, l.width * r.width, l.bars.max(r.bars))"},
     "own predecessor not looked at": {"(j == s) as usize;\n": "(j == s) as usize;\n            if j == s { continue }\n"},
-    "a header of 9 stations": {"if n as usize > STATIONS {": "if n as usize > STATIONS + 1 {"},
+    "a header of 9 stations": {"if n > STATIONS {": "if n > STATIONS + 1 {"},
     "a header of no station": {"if n < 1 {": "if false {"},
     "15 cuts listed at most": {"cuts.len() as u8]": "cuts.len().min(15) as u8]", "cuts.iter().for_each(|c| f": "cuts.iter().take(15).for_each(|c| f"},
     "15 structures at most": {"        out.retain(|s| !s.dropped());\n": "        out.retain(|s| !s.dropped());\n        out.truncate(15);\n"},
@@ -153,6 +153,88 @@ RULES = {
     "receiving clock not looked at": {"if received > 0 && event.clock[m.sender] < sent {": "if false {"},
     "receiving clock one short": {"event.clock[m.sender] < sent {": "event.clock[m.sender] + 1 < sent {"},
     "receiving clock to count more": {"event.clock[m.sender] < sent {": "event.clock[m.sender] <= sent {"},
+    "08 looks at the value": {"Field::Panel => self.panel,": "Field::Panel => self.value,"},
+    "01 looks at the panel": {"Field::Value => self.value,": "Field::Value => self.panel,"},
+    "01 looks at the panel under 11": {"Event { value: word(0), panel:": "Event { value: word(bytes.len() - 2), panel:"},
+    "panel before the value": {
+        "Event { value: word(0), panel: word(2), clock }":
+            "Event { value: word(bytes.len() - 2), panel: if bytes.len() == 4 { word(0) } else { 0 }, clock }"
+    },
+    "panel before the value in events": {"Event::new(fields, clock)": "Event::new(&[&fields[bytes - 2..], &fields[..bytes - 2]].concat(), clock)"},
+    "panel behind the clock": {"f[1..].split_at(bytes))": "(&[&f[1..3], &f[3 + n..]].concat()[..], &f[3..3 + n]))"},
+    "panel of the event before": {"if inside(&h[k]) {": "if inside(&Event { panel: h[k.saturating_sub(1)].panel, ..h[k] }) {"},
+    "panel of the next event": {"if inside(&h[k]) {": "if inside(&Event { panel: h[(k + 1).min(h.len() - 1)].panel, ..h[k] }) {"},
+    "panel of the last event of all": {"if inside(&h[k]) {": "if inside(&Event { panel: h[h.len() - 1].panel, ..h[k] }) {"},
+    "panel of the header at every event": {"if inside(&h[k]) {": "if inside(&Event { panel: h[0].panel, ..h[k] }) {"},
+    "panel 0 taken for the one before": {
+        "        self.history[s].push(Event::new(fields, clock));\n":
+            "        let (mut e, before) = (Event::new(fields, clock), self.history[s].last().unwrap().panel);\n"
+            "        e.panel = if e.panel == 0 { before } else { e.panel };\n"
+            "        self.history[s].push(e);\n"
+    },
+    "panel of another station": {
+        "Ok(Range { field, station, lo, hi })": "Ok(Range { field, station: (station + (field == Field::Panel) as usize) % stations, lo, hi })"
+    },
+    "panel of station 0": {"Ok(Range { field, station, lo, hi })": "Ok(Range { field, station: if field == Field::Panel { 0 } else { station }, lo, hi })"},
+    "panel of its low byte alone": {"panel: word(2), clock }": "panel: word(2) % 256, clock }"},
+    "panel with its low byte first": {"panel: word(2), clock }": "panel: word(2).swap_bytes(), clock }"},
+    "panels of events ignored": {"Event::new(fields, clock)": "Event::new(&fields[..2], clock)"},
+    "header's panels ignored": {"vec![Event::new(b, [0; 8])]": "vec![Event::new(&b[..2], [0; 8])]"},
+    "header's panels taken for values": {
+        "initial.chunks(bytes).map(|b| vec![Event::new(b, [0; 8])])":
+            "initial.chunks(bytes).zip(initial.chunks(2)).map(|(b, v)| vec![Event { value: Event::new(v, [0; 8]).value, ..Event::new(b, [0; 8]) }])"
+    },
+    "header's panels behind all values": {
+        "initial.chunks(bytes).map(|b| vec![Event::new(b, [0; 8])])":
+            "(0..n).map(|s| [&initial[2 * s..2 * s + 2], initial.get(2 * (n + s)..2 * (n + s) + 2).unwrap_or(&[])].concat())"
+            ".map(|b| vec![Event::new(&b, [0; 8])])"
+    },
+    "panel of header 10 the value": {"panel: word(2), clock }": "panel: word(bytes.len() - 2), clock }"},
+    "panel of header 10 from the clock": {"Event::new(fields, clock)": "Event::new(&f[1..f.len().min(5)], clock)"},
+    "panel of header 10 is 1": {"map_or(0, |b|": "map_or(1, |b|"},
+    "panel of header 10 in no range": {
+        "within(lo, hi, e.field(field)) == sign": "(within(lo, hi, e.field(field)) && (self.log.panels || field as u8 == 0)) == sign"
+    },
+    "08 refused under header 10": {
+        "        fits(&q)?;\n":
+            "        fits(&q)?;\n"
+            "        if !self.panels && crate::formula::atoms(&q)[1] > 0 {\n"
+            "            return Err(Fault::UnknownToken);\n"
+            "        }\n"
+    },
+    "header 11 refused": {"0x10 | 0x11 => self.header(": "0x10 => self.header("},
+    "header 11 refused by the program": {"0x10 | 0x11 => self.header(": "0x11 if self.limits.events == 127 => Err(Fault::UnknownKind),\n            0x10 | 0x11 => self.header("},
+    "header 11 of four stations at most": {"if n > STATIONS {": "if n * bytes > 2 * STATIONS {"},
+    "header 11 with the length of 10": {"([bytes, other], n) = (field_bytes(panels), n as usize);": "([bytes, other], n) = (field_bytes(false), n as usize);"},
+    "header 11 as short as 10 accepted": {
+        "if initial.len() != bytes * n {": "let bytes = if initial.len() == 2 * n { 2 } else { bytes };\n        if initial.len() != bytes * n {"
+    },
+    "header 10 as long as 11 accepted": {
+        "if initial.len() != bytes * n {": "let bytes = if initial.len() == 4 * n { 4 } else { bytes };\n        if initial.len() != bytes * n {"
+    },
+    "events of 11 with the length of 10": {"= field_bytes(self.panels);": "= field_bytes(false);"},
+    "event of 11 as short as of 10": {"= field_bytes(self.panels);": "= field_bytes(self.panels && f.len() != 3 + n);"},
+    "event of 10 as long as of 11": {"= field_bytes(self.panels);": "= field_bytes(self.panels || f.len() == 5 + n);"},
+    "second header of the other kind": {"if self.stations() > 0 {": "if self.stations() > 0 && panels == self.panels {"},
+    "second header 11 accepted": {"if self.stations() > 0 {": "if self.stations() > 0 && !panels {"},
+    "second header before any event": {"if self.stations() > 0 {": "if self.events > 0 {"},
+    "second header 11 too short as 5": {"if self.stations() > 0 {": "if self.stations() > 0 && (!panels || f.len() == 1 + 4 * self.stations()) {"},
+    "08 through zero empty": {
+        "within(lo, hi, e.field(field)) == sign": "(within(lo, hi, e.field(field)) && (lo <= hi || field as u8 == 0)) == sign"
+    },
+    "08 through zero refused": {"if station >= stations {": "if station >= stations || field == Field::Panel && lo > hi {"},
+    "08 as true under not": {"within(lo, hi, e.field(field)) == sign": "within(lo, hi, e.field(field)) == (sign || field as u8 == 1)"},
+    "16 for 08": {"Range { .. } => Ok(()),": "Range { field: Field::Value, .. } => Ok(()),\n        Range { .. } => if sign { Ok(()) } else { Err(fault) },"},
+    "08 not among the twelve": {"if all > 12 {": "if all - panels > 12 {"},
+    "twelve 08 beside twelve others": {"if all > 12 {": "if panels.max(all - panels) > 12 {"},
+    "08 holds no structure": {
+        "(Range { .. } | Clear { .. }, _) => ONE,":
+            "(Range { field: Field::Panel, .. }, _) => Size { held: 0, ..ONE },\n        (Range { .. } | Clear { .. }, _) => ONE,"
+    },
+    "station of 08 not there": {"if station >= stations {": "if station >= stations && field == Field::Value {"},
+    "08 cut short accepted": {
+        "let &[station, a, b, c, d] = operands else": "let mut full = operands.to_vec();\n    full.resize(if field == Field::Panel { 5 } else { full.len() }, 0);\n    let &[station, a, b, c, d] = &full[..] else"
+    },
 }
 
 # What a case of the corpus prints: what the program does, and of each question its forecast, and what Answer comes to, lent one cell less
@@ -207,7 +289,7 @@ fn main() {
 
 
 def module(folder, i, edits):
-    """Writes the implementation with these edits as module m{i}, which takes the parts before the first that is edited from m0."""
+    """Writes the implementation with these edits as module m{i}, which takes the parts from m0 that come before all that is edited or uses it."""
     texts = {part: (SOURCE / f"{part}.rs").read_text() for part in PARTS}
     own = len(PARTS) if i else 0
     for old, new in edits.items():
@@ -216,6 +298,8 @@ def module(folder, i, edits):
             sys.exit(f"not once there: {old!r}")
         own = min(own, places[0])
         texts[PARTS[places[0]]] = texts[PARTS[places[0]]].replace(old, new)
+    while any(f"crate::{part}::" in texts[before] for before in PARTS[:own] for part in PARTS[own:]):
+        own -= 1
     (folder / f"m{i}").mkdir()
     for part in PARTS[own:]:
         (folder / f"m{i}" / f"{part}.rs").write_text(texts[part].replace("crate::", f"crate::m{i}::"))

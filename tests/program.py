@@ -14,8 +14,10 @@ import tempfile
 import time
 
 from bases import answered
-from bench_cases import ALL, BENCH, CONVEYORS, HEAD, HEADER, MESSAGES_65, RECEIVED, WIDE18, ZERO, by_hand, chain, ladder
-from frames import ONE, Draw, atom, clear, in_turn, log_of, message, padded, sendings, word
+from bench_cases import (ALL, BENCH, BY_HAND, CONVEYORS, HEAD, HEADER, MESSAGES_65, OUTLINES, PANELS_BY_HAND, RECEIVED, WIDE18, ZERO, by_hand,
+                         chain, ladder)
+from frames import (ONE, Draw, atom, clear, drawn_panels, exactly, in_turn, log_of, message, padded, panel, panelled, sendings, with_panel,
+                    word)
 from listing import OPERATIONS, PROGRAM, atoms, encode, printed, read, size, tokens
 from read_write import FRAMES, LONGEST, full_log
 
@@ -40,9 +42,9 @@ def question(d, lead, clears):
     return lead + [3] * 7 + [b for p in ors + parts[8:] for b in p]
 
 
-def at_every_limit(messages=0):
-    """8 stations, 127 events, so many messages, 16 questions, each with the most tokens, atoms, and width or bars: without messages the
-    longest log of that kind, and with some questions about them too."""
+def at_every_limit(messages=0, panels=False):
+    """8 stations, 127 events, so many messages, panels or none, 16 questions, each with the most tokens, atoms, and width or bars: without
+    messages and panels the longest log of that kind, and with some questions about them too."""
     d = Draw(20261116)
     frames, last = [[0x10, 8] + [b for _ in range(8) for b in word(d.below(4))]], [[0] * 8 for _ in range(8)]
     for i in range(PROGRAM.events):
@@ -50,7 +52,10 @@ def at_every_limit(messages=0):
         last[s] = [max(pair) + (j == s) for j, pair in enumerate(zip(last[s], last[d.below(8)]))]
         frames.append([0x20, s] + word(d.below(4)) + last[s])
     frames += sendings(d, frames, messages) if messages else []
-    return log_of(frames + [[0x30] + question(d, [[2, 2], [2, 5], [5], [6, 2]][i % 4], 3 if messages else 0) for i in range(16)])
+    questions = [question(d, [[2, 2], [2, 5], [5], [6, 2]][i % 4], 3 if messages else 0) for i in range(16)]
+    if panels:
+        frames, questions = drawn_panels(d, frames, 4)[0], [with_panel(d, q) for q in questions]
+    return log_of(frames + [[0x30] + q for q in questions])
 
 
 def examples():
@@ -76,7 +81,7 @@ def over():
     yield "the longest that the operations take", LONGEST, refusal(1, 0)
 
 
-# Frames of read_write.py that are refused at their last one, and with which number.
+# Frames of read_write.py that are refused at their last one, and with which number: about messages, and about panels.
 MESSAGES_AT_FAULT = {
     "message first": 4,
     "message after a question": 4,
@@ -101,6 +106,48 @@ MESSAGES_AT_FAULT = {
     "not always 07": 16,
     "not of or with 07 right": 16,
 }
+PANELS_AT_FAULT = {
+    "header 11 after header 10": 4,
+    "header 10 after header 11": 4,
+    "header 11 after header 11 and an event": 4,
+    "header 11 after header 10 and a message": 4,
+    "header 11 after header 11 and a question": 4,
+    "second header 11 of one byte": 4,
+    "event with a panel first": 4,
+    "65 messages under header 11": 4,
+    "header 11, no stations": 5,
+    "header 11, nine stations": 5,
+    "header 11 of one byte": 5,
+    "header 11 of the length of 10": 5,
+    "header 10 of the length of 11": 5,
+    "header 11 too short": 5,
+    "header 11 too long": 5,
+    "header 11 without its last panel": 5,
+    "event of header 10 under header 11": 6,
+    "event of header 11 under header 10": 6,
+    "event under header 11, of one byte": 6,
+    "event under header 11 too short": 6,
+    "event under header 11 too long": 6,
+    "event under header 11, station not there": 6,
+    "event under header 11, panel behind the clock": 7,
+    "event under header 11, own entry 2": 7,
+    "event under header 11, other entry too high": 7,
+    "event under header 11, clock below the one before": 7,
+    "message under header 11, receiving clock counts none": 15,
+    "08 and no more": 8,
+    "08 cut short by a byte": 8,
+    "08 with a trailing byte": 8,
+    "08, station not there": 8,
+    "08, station not there, under header 10": 8,
+    "13 tokens 08": 9,
+    "13 tokens 01, 07 and 08": 9,
+    "13 tokens 01 and 08 as false": 9,
+    "13 tokens 01, 07 and 08 as false": 9,
+    "33 tokens with 08": 9,
+    "width 18 with 08": 9,
+    "12 tokens 01, 07 and 08 as false": 16,
+    "08 as true, 07 as false": 16,
+}
 
 
 def conveyors():
@@ -108,7 +155,7 @@ def conveyors():
     full = at_every_limit(64)
     for data in CONVEYORS:
         yield "sixteen questions about messages", data, None
-    for data, line in by_hand():
+    for data, line in by_hand(BY_HAND):
         yield "a question about messages, worked out by hand", data, line
     yield "every limit, 64 messages", full, None
     yield "every limit, 64 messages, without the last 0A", full[:-1], refusal(2, 208)
@@ -120,6 +167,28 @@ def conveyors():
     yield "128 events, then a message", log_of([ONE] + in_turn(1, 128, lambda i: i % 3) + [message(0, 1, 0)]), refusal(4, 129)
     yield "127 events, then a message at fault", log_of([ONE] + in_turn(1, 127, lambda i: i % 3) + [message(0, 1, 0)]), refusal(15, 129)
     for name, number in MESSAGES_AT_FAULT.items():
+        yield name, log_of(FRAMES[name]), refusal(number, len(FRAMES[name]))
+
+
+def outlines():
+    """Logs with panels: questions about them, both sides of the most events and bytes, and each refusal that is new with them."""
+    full, longest = at_every_limit(64, True), exactly(7864, log_of(FRAMES["the longest of 127 events with panels"]))
+    events = panelled([ONE] + in_turn(1, 128, lambda i: i % 3), lambda s: 12)
+    for data in OUTLINES:
+        yield "sixteen questions about panels", data, None
+    for data, line in by_hand(PANELS_BY_HAND):
+        yield "a question about panels, worked out by hand", data, line
+    yield "every limit, 64 messages and panels", full, None
+    yield "the longest, 7,864 bytes, with panels", longest, None
+    yield "the longest with panels, without the last 0A", longest[:-1], refusal(2, 208)
+    yield "8,192 bytes with panels, the 17th question at line 209", padded(longest, PROGRAM.log), refusal(4, 209)
+    yield "8,193 bytes with panels", padded(longest, PROGRAM.log + 1), refusal(1, 0)
+    yield "11,801 bytes with panels, which the operations take", exactly(11801, log_of(FRAMES["the longest with panels"])), refusal(1, 0)
+    yield "127 events with panels", log_of(events[:-1] + [[0x30] + panel(0, 12, 12)]), b"4001017F000000003F\n"
+    yield "128 events with panels", log_of(events), refusal(4, 129)
+    yield "128 events with panels, the last one as short as without", log_of(events[:-1] + [events[-1][:-2]]), refusal(4, 129)
+    yield "254 events with panels", log_of(FRAMES["254 events with panels"]), refusal(4, 129)
+    for name, number in PANELS_AT_FAULT.items():
         yield name, log_of(FRAMES[name]), refusal(number, len(FRAMES[name]))
 
 
@@ -159,6 +228,7 @@ def files():
     yield "ladder of 8 stations", ladder(8, 127), None
     yield "ranges through zero", ZERO, None
     yield from conveyors()
+    yield from outlines()
     yield from examples()
 
 
@@ -209,7 +279,7 @@ def at_limits(data):
 def main():
     if not MOMENTS.exists():
         sys.exit("target/bin/moments is not there: run rt check moments")
-    if {*at_limits(at_every_limit()), *at_limits(at_every_limit(64))} != {(32, 12, 16)}:
+    if {at for data in (at_every_limit(), at_every_limit(64), at_every_limit(64, True)) for at in at_limits(data)} != {(32, 12, 16)}:
         sys.exit("a question is not at every limit")
     cases = wrong = 0
     for name, data, by_hand in files():

@@ -1,5 +1,5 @@
 """The cases of Read and Write about document 01's limits and refusals, and what is to come of each."""
-from frames import ONE, atom, case, clear, exactly, in_turn, log_of, long_question, message, padded, wrong_check
+from frames import ONE, atom, case, clear, exactly, in_turn, log_of, long_question, message, padded, panel, panelled, wrong_check
 from listing import LIST, OPERATIONS, Refused, encode, read, read_frames
 
 OLD_LIST, OLD_LOG = 4096, 8192  # the longest list and log, and the least outputs, before document 02's ticket 4
@@ -17,10 +17,16 @@ def chain(k):
 EIGHT = [0x10, 8] + [0, 7] * 8
 
 
-def largest(events, messages=0):
-    """The longest accepted log of so many events and messages: eight stations, 16 questions of 32 tokens, 12 of them 01."""
-    question = [0x30] + [2] * 9 + [3] * 11 + atom(7, 1, 65535) * 12
+def largest(events, messages=0, second=atom):
+    """The longest accepted log of so many events and messages: eight stations, 16 questions of 32 tokens, 12 of them 01, or every second
+    of these another one."""
+    question = [0x30] + [2] * 9 + [3] * 11 + (atom(7, 1, 65535) + second(7, 1, 65535)) * 6
     return [EIGHT] + in_turn(8, events, lambda i: 256) + [message(6, 1, 7, 1)] * messages + [question] * 16
+
+
+def largest_with_panels(events):
+    """The longest accepted log of so many events, messages and panels among them."""
+    return panelled(largest(events, OPERATIONS.messages, panel), lambda s: 256 * s)
 
 
 def entries(fs):
@@ -241,6 +247,108 @@ FRAMES |= {
     }.items()},
 }
 
+# Header and events of the bench with panels, and with a message.
+PANELS = panelled(BENCH, lambda s: s + 1)
+HEADER11, EVENT11, LAST11 = PANELS[0], PANELS[1], PANELS[-1]
+ONE11 = [0x11] + ONE[1:] + [0, 0]
+CHAIN11 = panelled([ONE] + chain(255), lambda s: 255)
+MESSAGES11 = PANELS + [MESSAGE]
+
+# The same about panels: headers, events and messages under header 11, both headers in each place, and questions with 08 under both.
+FRAMES |= {
+    "bench with panels": PANELS + [[0x30, 3] + panel(0, 1, 1) + panel(1, 2, 2)],
+    "header 11 alone": [HEADER11],
+    "header 11 of one station": [ONE11],
+    "header 11 of eight stations": [[0x11, 8] + [0, 7] * 16],
+    "header 11, no stations": [[0x11, 0]],
+    "header 11, nine stations": [[0x11, 9] + [0, 0] * 18],
+    "header 11 of one byte": [[0x11]],
+    "header 11 of two bytes": [[0x11, 2]],
+    "header 11 of the length of 10": [[0x11] + HEADER[1:]],
+    "header 10 of the length of 11": [[0x10] + HEADER11[1:]],
+    "header 11 of eight stations, of the length of 10": [[0x11] + EIGHT[1:]],
+    "header 11 of one station, as long as 10 of two": [[0x11, 1] + HEADER[2:]],
+    "header 10 of four stations, as long as 11 of two": [[0x10, 4] + HEADER11[2:]],
+    "header 11 too short": [HEADER11[:-1]],
+    "header 11 too long": [HEADER11 + [0]],
+    "header 11 without its last panel": [HEADER11[:-2]],
+    "header 11 with a value more": [HEADER11 + [0, 0]],
+    "header 11 of 99 bytes": [[0x11, 2] + [0] * 97],
+    **{f"header {again[0]:X} after header {fs[0][0]:X}{name}": fs[:k] + [again]
+       for name, k in {"": 1, " and an event": 2, " and a message": 5, " and a question": 6}.items()
+       for fs, again in [(BENCH + [MESSAGE, QUESTION], HEADER11), (MESSAGES11 + [QUESTION], HEADER), (MESSAGES11 + [QUESTION], HEADER11)]},
+    "second header 11 of one byte": [HEADER, [0x11]],
+    "second header 11 of the length of 10": [HEADER11, [0x11] + HEADER[1:]],
+    "event with a panel first": [EVENT11],
+    "question with 08 first": [[0x30] + panel()],
+    "event of header 10 under header 11": [HEADER11, EVENT],
+    "event of header 11 under header 10": [HEADER, EVENT11],
+    "second event of header 10 under header 11": PANELS[:2] + [BENCH[2]],
+    "second event of header 11 under header 10": BENCH[:2] + [PANELS[2]],
+    "event under header 11, of one byte": [HEADER11, [0x20]],
+    "event under header 11 too short": [HEADER11, EVENT11[:-1]],
+    "event under header 11 too long": [HEADER11, EVENT11 + [0]],
+    "event under header 11, station not there": [HEADER11, [0x20, 2] + EVENT11[2:]],
+    "event under header 11, too short and station not there": [HEADER11, [0x20, 2] + EVENT11[2:-1]],
+    "event under header 11, panel behind the clock": [HEADER11, EVENT11[:4] + EVENT11[6:] + EVENT11[4:6]],
+    "event under header 11, panel 65535": [HEADER11, EVENT11[:4] + [255, 255] + EVENT11[6:]],
+    "event under header 11, own entry 0": [HEADER11, EVENT11[:6] + [0, 0]],
+    "event under header 11, own entry 2": [HEADER11, EVENT11[:6] + [2, 0]],
+    "event under header 11, other entry too high": [HEADER11, EVENT11[:6] + [1, 1]],
+    "event under header 11, clock below the one before": PANELS + [LAST11[:6] + [0, 3]],
+    "event under header 11, clock good": PANELS + [LAST11[:6] + [1, 3]],
+    "event under header 11 after a message": MESSAGES11 + [LAST11[:6] + [1, 3]],
+    "254 events with panels": CHAIN11[:-1],
+    "255 events with panels": CHAIN11,
+    "255th event with panels malformed": CHAIN11[:-1] + [CHAIN11[-1][:-2]],
+    "message under header 11": MESSAGES11,
+    "message under header 11, receiving clock counts none": PANELS + [message(0, 1, 1, 1)],
+    "message under header 11, receiver's event too large": PANELS + [message(0, 1, 1, 3)],
+    "65 messages under header 11": PANELS + [MESSAGE] * 65,
+    "08 alone": [HEADER11, [0x30, 8]],
+    "08 without events": [HEADER11, [0x30] + panel()],
+    **{name + under: fs + [[0x30] + q] for under, fs in {"": MESSAGES11, ", under header 10": BENCH + [MESSAGE]}.items() for name, q in {
+        "08": panel(),
+        "08 cut short by a byte": panel()[:-1],
+        "08 cut short by two bytes": panel()[:-2],
+        "08 with its station alone": panel()[:2],
+        "08 and no more": [8],
+        "08 cut short under and": [3] + atom() + panel()[:-1],
+        "08 with a trailing byte": panel() + [0],
+        "08, station not there": panel(2),
+        "08, station not there, as false": [2] + panel(2),
+        "08, lo above hi": panel(1, 2, 1),
+        "08, lo above hi, the most": panel(0, 65535, 0),
+        "08, lo above hi, station not there": panel(2, 2, 1),
+        "not 08": [2] + panel(),
+        "always 08": [6] + panel(),
+        "not always 08": [2, 6] + panel(),
+        "possibly not 08": [5, 2] + panel(),
+        "08 as false, 07 as true": [3, 2] + panel() + clear(),
+        "08 as true, 07 as false": [3] + panel() + [2] + clear(),
+        "12 tokens 08": [4] * 11 + panel() * 12,
+        "13 tokens 08": [4] * 12 + panel() * 13,
+        "12 tokens 01, 07 and 08": [4] * 11 + (atom() + clear() + panel()) * 4,
+        "13 tokens 01, 07 and 08": [4] * 12 + (atom() + clear() + panel()) * 4 + panel(),
+        "13 tokens 01 and 08, the last 08": [4] * 12 + atom() * 12 + panel(),
+        "13 tokens 01 and 08, the last 01": [4] * 12 + panel() * 12 + atom(),
+        "13 tokens 07 and 08, the last 07": [4] * 12 + panel() * 12 + clear(),
+        "12 tokens 01 and 08 as false": [2] + [4] * 11 + (atom() + panel()) * 6,
+        "13 tokens 01 and 08 as false": [2] + [4] * 12 + (atom() + panel()) * 6 + panel(),
+        "12 tokens 01, 07 and 08 as false": [2] + [4] * 11 + (atom() + clear() + panel()) * 4,
+        "13 tokens 01, 07 and 08 as false": [2] + [4] * 12 + (atom() + clear() + panel()) * 4 + panel(),
+        "32 tokens with 08": [2] * 31 + panel(),
+        "33 tokens with 08": [2] * 32 + panel(),
+        "34 tokens, 08 cut short": [2] * 33 + panel()[:-1],
+        "13 tokens 08, the last one's station not there": [4] * 12 + panel() * 12 + panel(2),
+        "width 16 with 08": [3, 3] + OR2 + OR2 + [3] + OR2 + [4] + atom() + panel(),
+        "width 18 with 08": [3, 3] + OR3 + OR3 + [4] + panel() * 2,
+        "bars 18 with 08": [3, 6, 2, 3] + OR3 + OR3 + [6, 2, 3] + OR3 + [4, 4] + panel() * 3,
+    }.items()},
+    "the longest of 127 events with panels": largest_with_panels(127),
+    "the longest with panels": largest_with_panels(254),
+}
+
 GOOD = log_of(FRAMES["bench"])
 LONGEST, LONGEST_LIST = log_of(FRAMES["the longest"]), entries(FRAMES["the longest"])
 
@@ -255,6 +363,8 @@ LOGS = [
     padded(LONGEST, OPERATIONS.log), padded(LONGEST, OPERATIONS.log + 1), b"0" * OPERATIONS.log, b"0" * (OPERATIONS.log + 1),
     log_of(BENCH) + wrong_check(message(0, 1, 1, 1)), log_of(FULL64) + wrong_check([0x25]), wrong_check(MESSAGE),
     log_of(BENCH + [MESSAGE])[:-1], log_of(BENCH + [MESSAGE, [0x30, 2] + clear()])[:-1],
+    log_of(PANELS)[:-1], encode(HEADER11)[:-1], wrong_check(HEADER11), wrong_check(HEADER11[:-4]), encode(HEADER) + wrong_check(HEADER11),
+    encode(HEADER11) + wrong_check(EVENT), encode(HEADER11).lower(),
 ]
 
 # Frame lists at fault, and some at the limits of their length.
@@ -263,6 +373,7 @@ LISTS = [
     [1, 0] * 2048, [1, 0] * 2048 + [1], [4, 0x10, 1, 0, 0] + [99] + [0x30] * 99,
     full_list(OLD_LIST, 9), full_list(OLD_LIST + 1, 9), padded_list(LONGEST_LIST, LIST), padded_list(LONGEST_LIST, LIST + 1),
     entries(BENCH) + [5] + MESSAGE[:-1], entries(BENCH) + [5] + message(0, 1, 1, 1) + [0], entries(BENCH) + [100] + MESSAGE,
+    [6] + HEADER11, [11] + HEADER11, entries([HEADER11]) + [6] + EVENT11, entries([HEADER11]) + [9] + EVENT11, entries(PANELS) + [0],
 ]
 
 

@@ -88,12 +88,14 @@ fn answers(log: &[u8]) -> Vec<u8> {
     lines
 }
 
-/// How many logs there were, and of the accepted ones how many of more events than the program takes, and with messages.
+/// How many logs there were, and of the accepted ones how many of more events than the program takes, with messages, and with a header of
+/// kind 11.
 #[derive(Default)]
 pub struct Seen {
     pub logs: u64,
     pub large: u64,
     pub messages: u64,
+    pub panels: u64,
 }
 
 impl Seen {
@@ -102,6 +104,7 @@ impl Seen {
         let Ok(log) = Log::read(OPERATIONS, log) else { return };
         self.large += (log.events > PROGRAM.events) as u64;
         self.messages += !log.messages.is_empty() as u64;
+        self.panels += log.panels as u64;
     }
 }
 

@@ -1,6 +1,6 @@
 //! Instructions of the whole program under callgrind, and its memory under massif.
 use crate::codes::{cells, filled, head, names, PEERS};
-use crate::timed::{message_log, rounds, wide_log};
+use crate::timed::{message_log, panel_log, rounds, wide_log};
 use compare::log::{line, Limits, OPERATIONS, PROGRAM, QUESTIONS};
 use std::env::{current_exe, vars_os};
 use std::fmt::Write;
@@ -17,12 +17,37 @@ fn file(name: &str, log: &[u8]) -> String {
     path
 }
 
-/// The log of a row of a table, and its name.
-fn row_log(stations: usize, events: usize, messages: usize, questions: usize) -> (String, Vec<u8>) {
-    let name = format!("{stations}x{events}");
-    match messages {
-        0 => (name, wide_log(stations, events, questions)),
-        _ => (name + "-messages", message_log(stations, events, messages, questions)),
+/// How large the log of a row of a table is, and what it has: messages, or a header of kind 11, or neither.
+#[derive(Clone, Copy)]
+struct Size {
+    stations: usize,
+    events: usize,
+    messages: usize,
+    header: u8,
+}
+
+impl Size {
+    fn of(stations: usize, events: usize) -> Self {
+        Size { stations, events, messages: 0, header: 0x10 }
+    }
+
+    fn with_messages(self, messages: usize) -> Self {
+        Size { messages, ..self }
+    }
+
+    fn with_panels(self) -> Self {
+        Size { header: 0x11, ..self }
+    }
+
+    /// The name of the log, and the log with so many questions.
+    fn log(self, questions: usize) -> (String, Vec<u8>) {
+        let Size { stations, events, messages, header } = self;
+        let name = format!("{stations}x{events}");
+        match (messages, header) {
+            (0, 0x10) => (name, wide_log(stations, events, questions)),
+            (0, _) => (name + "-panels", panel_log(stations, events, questions)),
+            _ => (name + "-messages", message_log(stations, events, messages, questions)),
+        }
     }
 }
 
@@ -51,9 +76,7 @@ fn ten_reads(log: &str) -> u64 {
 
 /// Instructions of the programs on a log with 16 questions, what the proved one takes a log byte and a round, and Read a log byte.
 pub struct Program {
-    stations: usize,
-    events: usize,
-    messages: usize,
+    size: Size,
     bytes: usize,
     rounds: u64,
     pub proved: u64,
@@ -63,8 +86,8 @@ pub struct Program {
     read: f64,
 }
 
-fn program(stations: usize, events: usize, messages: usize) -> Program {
-    let ((name, data), (_, bare)) = (row_log(stations, events, messages, 16), row_log(stations, events, messages, 0));
+fn program(size: Size) -> Program {
+    let ((name, data), (_, bare)) = (size.log(16), size.log(0));
     let (asked, unasked, empty) = (file(&name, &data), file(&(name + "-bare"), &bare), file("empty", b""));
     let bench = current_exe().unwrap();
     let (printed, proved) = instructions(&[MOMENTS], &asked);
@@ -77,9 +100,7 @@ fn program(stations: usize, events: usize, messages: usize) -> Program {
     let (reading, beginning) = (instructions(&[MOMENTS], &unasked).1, instructions(&[MOMENTS], &empty).1);
     let rounds = printed.split_inclusive('\n').map(|l| rounds(l.as_bytes())).sum();
     Program {
-        stations,
-        events,
-        messages,
+        size,
         bytes: data.len(),
         rounds,
         proved,
@@ -90,21 +111,22 @@ fn program(stations: usize, events: usize, messages: usize) -> Program {
     }
 }
 
-/// For 2 to 8 stations, for fewer events, and with messages; the last has the most events that the program takes.
+/// For 2 to 8 stations, for fewer events, with messages and with panels; the last has the most events that the program takes.
 pub fn programs() -> Vec<Program> {
     let Limits { events: most, messages: all, .. } = PROGRAM;
-    let rows = [(2, most, 0), (3, most, 0), (4, most, 0), (6, most, 0), (8, 32, 0), (8, 64, 0), (8, most, all), (8, most, 0)];
-    rows.map(|(stations, events, messages)| program(stations, events, messages)).into()
+    let (few, largest) = ([2, 3, 4, 6].map(|stations| Size::of(stations, most)), Size::of(8, most));
+    let eight = [Size::of(8, 32), Size::of(8, 64), largest.with_messages(all), largest.with_panels(), largest];
+    few.into_iter().chain(eight).map(program).collect()
 }
 
 pub fn section(programs: &[Program]) -> String {
     let mut page = String::from(include_str!("counted.md"));
     let costs = "proved, a log byte | proved, a round | Read, a log byte";
-    page += &head(format!("| stations | events | messages | log bytes | rounds | proved | {} | {costs} |", names()));
+    page += &head(format!("| stations | events | messages | header | log bytes | rounds | proved | {} | {costs} |", names()));
     for p in programs {
-        let Program { stations, events, messages, bytes, rounds, proved, peers, per_byte, per_round, read } = p;
-        let peers = cells(|i| peers[i].to_string());
-        let (log, costs) = (format!("{stations} | {events} | {messages} | {bytes}"), format!("{per_byte:.0} | {per_round:.0} | {read:.2}"));
+        let Program { size: Size { stations, events, messages, header }, bytes, rounds, proved, peers, per_byte, per_round, read } = p;
+        let log = format!("{stations} | {events} | {messages} | {header:X} | {bytes}");
+        let (peers, costs) = (cells(|i| peers[i].to_string()), format!("{per_byte:.0} | {per_round:.0} | {read:.2}"));
         writeln!(page, "| {log} | {rounds} | {proved} | {peers} | {costs} |").unwrap();
     }
     page
@@ -115,7 +137,7 @@ pub fn calls_section() -> String {
     let (few, many, all, mut page) = (PROGRAM.events, OPERATIONS.events, OPERATIONS.messages, filled(include_str!("calls.md")));
     page += &head(format!("| stations | events | messages | log bytes | rounds | Read | Read, a log byte | Answer, proved | {} |", names()));
     for (stations, events, messages) in [(8, few, 0), (8, few, all), (4, many, 0), (8, many, 0), (8, many, all)] {
-        let ((name, data), bench) = (row_log(stations, events, messages, QUESTIONS), current_exe().unwrap());
+        let ((name, data), bench) = (Size::of(stations, events).with_messages(messages).log(QUESTIONS), current_exe().unwrap());
         let log = file(&name, &data);
         let (bytes, read) = (data.len(), ten_reads(&log));
         let process = |code: &str, times: &str| instructions(&[bench.to_str().unwrap(), "answer", code, times], &log);
@@ -216,7 +238,7 @@ fn memory_on(log: String) -> Memory {
 }
 
 pub fn memory() -> [Memory; 4] {
-    let [(plain, few), (sent, many)] = [0, PROGRAM.messages].map(|messages| row_log(8, 127, messages, 16));
+    let [(plain, few), (sent, many)] = [0, PROGRAM.messages].map(|messages| Size::of(8, 127).with_messages(messages).log(16));
     [file(&plain, &few), file(&sent, &many), file("deep", &deep_log()), file("refused", &refused_log())].map(memory_on)
 }
 

@@ -58,9 +58,9 @@ impl Plain<'_> {
 
     fn basis(&mut self, f: &mut Tokens, sign: bool) -> Vec<Structure> {
         match (f.take(), sign) {
-            (Token::Range { station, lo, hi }, _) => {
+            (Token::Range { field, station, lo, hi }, _) => {
                 let h = &self.log.history[station];
-                let next = |c: &Cut| (c[station] as usize..h.len()).find(|&k| within(lo, hi, h[k].value) == sign);
+                let next = |c: &Cut| (c[station] as usize..h.len()).find(|&k| within(lo, hi, h[k].field(field)) == sign);
                 self.build(vec![], |_, c| next(c).map(|k| join(c, &h[k].clock))).into_iter().collect()
             }
             (Token::Clear { sender, receiver }, _) => {

@@ -48,7 +48,7 @@ fn never_log(stations: usize, events: usize) -> Vec<u8> {
 /// A Promela model with a process for each station, whose states are the consistent cuts.
 fn promela(log: &Log) -> String {
     let ranges = log.questions[0].iter().filter_map(|t| match t {
-        Token::Range { station, lo, hi } => Some(format!("c[{station}] >= {lo} && c[{station}] <= {hi}")),
+        Token::Range { station, lo, hi, .. } => Some(format!("c[{station}] >= {lo} && c[{station}] <= {hi}")),
         _ => None,
     });
     let mut model = format!("byte c[{}];\n#define asked ({})\n", log.stations(), ranges.collect::<Vec<_>>().join(" && "));

@@ -6,7 +6,7 @@ use compare::formula::Tokens;
 use compare::log::{Log, OPERATIONS, PROGRAM};
 use compare::made::{self, Shape};
 use compare::operations::{BARS, LINE, WORKSPACE};
-use compare::{listing, messages, proved};
+use compare::{listing, messages, panels, proved};
 use std::env::current_exe;
 use std::fmt::{Display, Formatter, Result, Write};
 use std::hint::black_box;
@@ -99,16 +99,32 @@ fn wide_frames(shape: Shape) -> Vec<Vec<u8>> {
     fs
 }
 
-/// A log of these with questions of width 16.
-pub fn wide_log(stations: usize, events: usize, questions: usize) -> Vec<u8> {
+/// These with questions of width 16.
+fn asked_frames(stations: usize, events: usize, questions: usize) -> Vec<Vec<u8>> {
     let asked = &mut Draw(1);
     let shape = Shape { stations, events, questions: 0, ranges: 0, step: 1, zero: 0 };
     let mut fs = wide_frames(shape);
     fs.extend((0..questions).map(|_| [vec![0x30], made::product(asked, shape, &[2, 2, 2, 2])].concat()));
+    fs
+}
+
+/// A log of these.
+pub fn wide_log(stations: usize, events: usize, questions: usize) -> Vec<u8> {
+    made::lines(&asked_frames(stations, events, questions))
+}
+
+/// The same with a header of kind 11, and a token 08 in place of every second token 01. Panels are 0 to 3, as values are.
+pub fn panel_log(stations: usize, events: usize, questions: usize) -> Vec<u8> {
+    let (d, mut fs, mut second) = (&mut Draw(3), asked_frames(stations, events, questions), true);
+    panels::put(&mut fs, |_, value| [value, made::word(d.below(4))]);
+    panels::ask(&mut fs, |_| {
+        second = !second;
+        second
+    });
     made::lines(&fs)
 }
 
-/// The same with messages of four pairs, and questions of which every second atom is a token 07 of one of these.
+/// A log with messages of four pairs, and questions of which every second atom is a token 07 of one of these.
 pub fn message_log(stations: usize, events: usize, messages: usize, questions: usize) -> Vec<u8> {
     let (d, asked) = (&mut Draw(2), &mut Draw(1));
     let shape = Shape { stations, events, questions: 0, ranges: 0, step: 1, zero: 0 };

@@ -49,9 +49,9 @@ impl<'a> Finder<'a> {
     fn basis<'f>(&mut self, f: &'f [u8], sign: bool) -> &'f [u8] {
         let (from, rest) = (self.standing.len(), &f[1..]);
         match (f[0], sign) {
-            (1, _) => {
-                let range = Range { station: f[1] as usize, lo: word(f[2], f[3]), hi: word(f[4], f[5]), sign };
-                if self.sets.log.values(range.station).iter().any(|&v| range.has(v)) {
+            (1 | 8, _) => {
+                let range = Range { panel: f[0] == 8, station: f[1] as usize, lo: word(f[2], f[3]), hi: word(f[4], f[5]), sign };
+                if range.numbers(self.sets.log).iter().any(|&v| range.has(v)) {
                     let s = self.fresh(Some(range));
                     self.standing.push(s);
                 }

@@ -19,8 +19,8 @@ pub struct Log {
     pub starts: Vec<Cut>,
     /// How many events there are at stations before each.
     before: [usize; STATIONS + 1],
-    /// Each station's initial value and those of its events.
-    values: Vec<u16>,
+    /// Each station's initial value and those of its events; then likewise its panels.
+    fields: [Vec<u16>; 2],
     pub messages: Vec<Message>,
     /// The questions' formulas, one after the other, and where each ends.
     formulas: Vec<u8>,
@@ -36,12 +36,12 @@ impl Log {
         &self.formulas[if q == 0 { 0 } else { self.ends[q - 1] }..self.ends[q]]
     }
 
-    /// A station's initial value and those of its events.
-    pub fn values(&self, station: usize) -> &[u16] {
-        &self.values[self.place(station)..self.place(station + 1)]
+    /// A station's initial value and those of its events, or its panels.
+    pub fn fields(&self, station: usize, panel: bool) -> &[u16] {
+        &self.fields[panel as usize][self.place(station)..self.place(station + 1)]
     }
 
-    /// Where a station's values begin: it has one more than events.
+    /// Where a station's values begin, and its panels: it has one more than events.
     pub fn place(&self, station: usize) -> usize {
         self.before[station] + station
     }
@@ -99,7 +99,7 @@ impl Formula<'_> {
         self.rest = rest;
         self.tokens += 1;
         let (width, bars) = match (token, sign) {
-            (1, _) => {
+            (1 | 8, _) => {
                 let (&[station, _, _, _, _], rest) = rest.split_first_chunk()?;
                 if station as usize >= self.stations {
                     return None;
@@ -143,11 +143,13 @@ const PLACES: usize = 256;
 struct Reader {
     limits: Limits,
     stations: usize,
-    initial: [u16; STATIONS],
+    /// The header is of kind 11: a panel stands behind each value.
+    panels: bool,
+    initial: [[u16; STATIONS]; 2],
     events: usize,
-    /// The empty cut, then the events' clocks in the order of the log; with their values.
+    /// The empty cut, then the events' clocks in the order of the log; with their values, and their panels.
     clocks: [Cut; PLACES],
-    values: [u16; PLACES],
+    fields: [[u16; PLACES]; 2],
     /// The place of each station's events among them.
     at: [[u8; PLACES]; STATIONS],
     /// How many events of each station there are.
@@ -162,14 +164,18 @@ impl Reader {
         self.clocks[self.at[station][k as usize] as usize]
     }
 
-    fn header(&mut self, f: &[u8]) -> Result<(), u8> {
+    fn header(&mut self, panels: bool, f: &[u8]) -> Result<(), u8> {
         if self.stations > 0 {
             return Err(4);
         }
+        let bytes = if panels { 4 } else { 2 };
         match f.split_first() {
-            Some((&n, values)) if (1..=STATIONS).contains(&n.into()) && values.len() == 2 * n as usize => {
-                self.stations = n.into();
-                self.initial.iter_mut().zip(values.chunks_exact(2)).for_each(|(v, b)| *v = word(b[0], b[1]));
+            Some((&n, initial)) if (1..=STATIONS).contains(&n.into()) && initial.len() == bytes * n as usize => {
+                (self.stations, self.panels) = (n.into(), panels);
+                for (j, b) in initial.chunks_exact(bytes).enumerate() {
+                    self.initial[0][j] = word(b[0], b[1]);
+                    self.initial[1][j] = if panels { word(b[2], b[3]) } else { 0 };
+                }
                 Ok(())
             }
             _ => Err(5),
@@ -180,11 +186,11 @@ impl Reader {
         if self.stations == 0 || !self.ends.is_empty() || !self.messages.is_empty() || self.events == self.limits.events {
             return Err(4);
         }
-        let station = frame[1] as usize;
-        if n != 5 + self.stations || station >= self.stations {
+        let (station, at) = (frame[1] as usize, if self.panels { 6 } else { 4 });
+        if n != at + 1 + self.stations || station >= self.stations {
             return Err(6);
         }
-        let clock = Cut::from_le_bytes(frame[4..12].try_into().unwrap()) & Cut::MAX >> (64 - 8 * self.stations);
+        let clock = Cut::from_le_bytes(frame[at..at + 8].try_into().unwrap()) & Cut::MAX >> (64 - 8 * self.stations);
         let (own, k) = (1 << (8 * station), count(self.counts, station));
         if count(clock, station) != k + 1 {
             return Err(7);
@@ -201,7 +207,10 @@ impl Reader {
         self.events += 1;
         self.at[station][k as usize + 1] = self.events as u8;
         self.clocks[self.events] = clock;
-        self.values[self.events] = word(frame[2], frame[3]);
+        self.fields[0][self.events] = word(frame[2], frame[3]);
+        if self.panels {
+            self.fields[1][self.events] = word(frame[4], frame[5]);
+        }
         Ok(())
     }
 
@@ -246,16 +255,18 @@ impl Reader {
     /// The log, its events station by station.
     fn sorted(self) -> Log {
         let (rows, mut before) = (self.events + 1, [0; STATIONS + 1]);
-        let (mut starts, mut values) = (Vec::with_capacity(rows), Vec::with_capacity(self.events + STATIONS));
+        let (mut starts, mut fields) = (Vec::with_capacity(rows), [(); 2].map(|_| Vec::with_capacity(self.events + STATIONS)));
         starts.push(0);
         for j in 0..self.stations {
             let events = &self.at[j][1..=count(self.counts, j) as usize];
             starts.extend(events.iter().map(|&i| self.clocks[i as usize]));
-            values.push(self.initial[j]);
-            values.extend(events.iter().map(|&i| self.values[i as usize]));
+            for ((all, initial), of) in fields.iter_mut().zip(&self.initial).zip(&self.fields) {
+                all.push(initial[j]);
+                all.extend(events.iter().map(|&i| of[i as usize]));
+            }
             before[j + 1] = starts.len() - 1;
         }
-        Log { stations: self.stations, starts, before, values, messages: self.messages, formulas: self.formulas, ends: self.ends }
+        Log { stations: self.stations, starts, before, fields, messages: self.messages, formulas: self.formulas, ends: self.ends }
     }
 }
 
@@ -266,10 +277,11 @@ pub fn read(limits: Limits, data: &[u8]) -> Result<Log, Refusal> {
     let mut reader = Reader {
         limits,
         stations: 0,
-        initial: [0; STATIONS],
+        panels: false,
+        initial: [[0; STATIONS]; 2],
         events: 0,
         clocks: [0; PLACES],
-        values: [0; PLACES],
+        fields: [[0; PLACES]; 2],
         at: [[0; PLACES]; STATIONS],
         counts: 0,
         messages: Vec::new(),
@@ -281,7 +293,7 @@ pub fn read(limits: Limits, data: &[u8]) -> Result<Log, Refusal> {
         lines += 1;
         let (n, after) = line(rest, &mut frame).map_err(|number| (number, lines))?;
         let admitted = match frame[0] {
-            0x10 => reader.header(&frame[1..n - 1]),
+            0x10 | 0x11 => reader.header(frame[0] == 0x11, &frame[1..n - 1]),
             0x20 => reader.event(n, &frame),
             0x25 => reader.message(&frame[1..n - 1]),
             0x30 => reader.question(&frame[1..n - 1]),

@@ -1,7 +1,8 @@
 //! Sets and pairs of them, by what holds of raising a cut to the least cut of a set that contains it:
 //!
 //! - an event's clock is raised to the event's row, a cut of the set is not raised, and a join is raised to the join of what its parts are;
-//! - a range raises a cut to its join with the clock of one event: the first of the station, from the cut's count on, with such a value;
+//! - a range raises a cut to its join with the clock of one event: the first of the station, from the cut's count on, with such a value,
+//!   or such a panel;
 //! - "nothing on the way" does so too, with an event of the receiver that follows from the cut's count of the sender.
 //!
 //! So where one side of a pair is a range, each half round joins the cut with one clock or with one row of the other side, and through
@@ -10,9 +11,10 @@
 use super::cut::{contained, count, join, Cut, NONE};
 use super::read::Log;
 
-/// The cuts where a station's value is from lo to hi, through zero if lo is above hi, or is not.
+/// The cuts where a station's value, or its panel, is from lo to hi, through zero if lo is above hi, or is not.
 #[derive(Clone, Copy)]
 pub struct Range {
+    pub panel: bool,
     pub station: usize,
     pub lo: u16,
     pub hi: u16,
@@ -21,10 +23,15 @@ pub struct Range {
 
 impl Range {
     /// All cuts.
-    pub const ALL: Self = Range { station: 0, lo: 0, hi: u16::MAX, sign: true };
+    pub const ALL: Self = Range { panel: false, station: 0, lo: 0, hi: u16::MAX, sign: true };
 
-    pub fn has(&self, value: u16) -> bool {
-        (value.wrapping_sub(self.lo) <= self.hi.wrapping_sub(self.lo)) == self.sign
+    pub fn has(&self, number: u16) -> bool {
+        (number.wrapping_sub(self.lo) <= self.hi.wrapping_sub(self.lo)) == self.sign
+    }
+
+    /// What it looks at: the station's values or its panels, the initial one first.
+    pub fn numbers<'l>(&self, log: &'l Log) -> &'l [u16] {
+        log.fields(self.station, self.panel)
     }
 }
 
@@ -73,7 +80,7 @@ struct Entry {
 }
 
 impl Entry {
-    /// The value is in the range: nothing is joined.
+    /// The number is in the range: nothing is joined.
     const SETTLED: Self = Entry { above: 0, under: 0, kept: 0, rounds: 1 };
 
     /// None is met in a round.
@@ -99,14 +106,14 @@ impl<'a> Sets<'a> {
         let (Some(range), false) = (s.range, s.laid) else { return };
         s.laid = true;
         let (log, next, mut clock) = (self.log, &mut self.tables.above, NONE);
-        let (values, clocks) = (log.values(range.station), log.rows(&log.starts, range.station));
-        for k in (1..values.len()).rev() {
-            if range.has(values[k]) {
+        let (numbers, clocks) = (range.numbers(log), log.rows(&log.starts, range.station));
+        for k in (1..numbers.len()).rev() {
+            if range.has(numbers[k]) {
                 clock = clocks[k - 1];
             }
             next[k] = clock;
         }
-        next[0] = if range.has(values[0]) { 0 } else { clock };
+        next[0] = if range.has(numbers[0]) { 0 } else { clock };
         for (c, &start) in s.rows.iter_mut().zip(&log.starts) {
             *c = join(start, next[count(start, range.station) as usize]);
         }
@@ -178,11 +185,11 @@ impl<'a> Sets<'a> {
     /// A pair whose right set is a range.
     fn right_range(&mut self, left: &[Cut], range: Range, out: &mut [Cut]) {
         let (log, station) = (self.log, range.station);
-        let (values, rows, clocks) = (log.values(station), log.rows(left, station), log.rows(&log.starts, station));
+        let (numbers, rows, clocks) = (range.numbers(log), log.rows(left, station), log.rows(&log.starts, station));
         let (t, mut next) = (&mut self.tables, Entry::none(1));
         t.put(255, &next);
-        for k in (1..values.len()).rev() {
-            if !range.has(values[k]) {
+        for k in (1..numbers.len()).rev() {
+            if !range.has(numbers[k]) {
                 t.put(k as u8, &next);
                 continue;
             }
@@ -197,7 +204,7 @@ impl<'a> Sets<'a> {
                 Entry { under: join(row, up.under), rounds: up.rounds + 1, ..up }
             };
         }
-        t.put(0, if range.has(values[0]) { &Entry::SETTLED } else { &next });
+        t.put(0, if range.has(numbers[0]) { &Entry::SETTLED } else { &next });
         let (t, mut rounds) = (&self.tables, 0);
         for ((c, &l), &start) in out.iter_mut().zip(left).zip(&log.starts) {
             let k = count(l, station) as usize;
@@ -211,12 +218,12 @@ impl<'a> Sets<'a> {
     /// A pair whose left set is a range. Here what is under is the row that the first round joins, by the start's count.
     fn left_range(&mut self, range: Range, right: &[Cut], out: &mut [Cut]) {
         let (log, station) = (self.log, range.station);
-        let (values, rows) = (log.values(station), log.rows(right, station));
+        let (numbers, rows) = (range.numbers(log), log.rows(right, station));
         let none = Entry { under: NONE, ..Entry::none(2) };
         let (t, mut next) = (&mut self.tables, none);
         t.put(255, &Entry::none(1));
-        for k in (1..values.len()).rev() {
-            if !range.has(values[k]) {
+        for k in (1..numbers.len()).rev() {
+            if !range.has(numbers[k]) {
                 t.put(k as u8, &next);
                 continue;
             }
@@ -229,7 +236,7 @@ impl<'a> Sets<'a> {
                 Entry { above: if up.above == 0 { row } else { up.above }, under: row, kept: 0, rounds: up.rounds + 1 }
             };
         }
-        t.put(0, &if range.has(values[0]) { Entry { under: right[0], ..Entry::SETTLED } } else { next });
+        t.put(0, &if range.has(numbers[0]) { Entry { under: right[0], ..Entry::SETTLED } } else { next });
         let (t, mut rounds) = (&self.tables, 0);
         for ((c, &r), &start) in out.iter_mut().zip(right).zip(&log.starts) {
             let first = join(r, t.under[count(start, station) as usize]);

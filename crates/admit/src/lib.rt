@@ -22,11 +22,12 @@ pub fn admit(m: model::Limits, s: State, frame: &[u8], store: &mut [u8]) -> Admi
 {
     let kind = frame[0];
     match kind {
-        0x10 => header(m, s, frame, store),
+        0x10 => header(m, s, false, frame, store),
+        0x11 => header(m, s, true, frame, store),
         0x20 => event(m, s, frame, store),
         0x25 => message(m, s, frame, store),
         0x30 => question(m, s, frame),
-        0x00..=0x0F | 0x11..=0x1F | 0x21..=0x24 | 0x26..=0x2F | 0x31..=0xFF => Admitted::faulty(
+        0x00..=0x0F | 0x12..=0x1F | 0x21..=0x24 | 0x26..=0x2F | 0x31..=0xFF => Admitted::faulty(
             s,
             model::Fault::Kind,
         ),

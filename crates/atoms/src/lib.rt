@@ -5,7 +5,8 @@ ghost use mathlib.Core.Path.{_≡_};
 ghost use mathlib.Core.Bool.{Bool, _&&_};
 ghost use mathlib.Core.List.{_∷_};
 ghost use Prim.Native.Nat.{_<_};
-ghost use Rattle.model.specs.Atom.{Atom};
+ghost use Rattle.model.specs.declared.Aspect.{Aspect};
+ghost use Rattle.model.specs.Atom.{Atom, rangeToken};
 ghost use Rattle.model.specs.Formula.Formula.{atom};
 ghost use Rattle.lattice.specs.Signed.{normal};
 ghost use Rattle.extents.specs.Extents.{extentOf};
@@ -48,9 +49,9 @@ fn single() -> Extent
     })
 }
 
-// 01 before `rest`: five bytes of it are its station, lo and hi, which may be any.
+// 01 or 08 before `rest`: five bytes of it are its station, lo and hi, which may be any.
 fn range(rest: &[u8], n: usize) -> Front
-    ensures { λ r. ⌜ ((s : Bool) → Measured n s (1 ∷ now (rest .entry)) r) ⌝ }
+    ensures { λ r. ⌜ ((s : Bool) (a : Aspect) → Measured n s (rangeToken a ∷ now (rest .entry)) r) ⌝ }
 {
     if rest.len() < 5 {
         return Front::Nothing;
@@ -93,6 +94,7 @@ pub fn leaf(t: u8, rest: &[u8], n: usize, sign: bool) -> Front
     match t {
         1 => range(rest, n),
         7 => clear(rest, n, sign),
-        0 | 2..=6 | 8..=255 => Front::Nothing,
+        8 => range(rest, n),
+        0 | 2..=6 | 9..=255 => Front::Nothing,
     }
 }

@@ -7,33 +7,33 @@ use mathlib.Core.Option.{Option, none, some}
 use Prim.Native.Nat.{ℕ, suc, _+_, _*_, _<_, _≤_}
 use native.Mathlib.Omega.{arith}
 use lib.Dec.{leb, ltb, eqb}
-use lib.ListN.{length, getD, drop, length-drop}
+use lib.ListN.{length, getD, drop}
 use borrow.Author.Tests.{ltb-true, ltb-false, eqb-true, not-true}
 use Rattle.model.specs.declared.Limits.{Limits}
 use Rattle.model.specs.Lists.{between}
 use Rattle.model.specs.Bytes.{linesOf, Item, frame, bad, items}
-use Rattle.model.specs.Frames.{words, framesOf}
+use Rattle.model.specs.Frames.{framesOf}
 use Rattle.model.specs.Formula.{Formula, formulaOf, sound}
 use Rattle.model.specs.Computation.{stations, eventCount, clockOk, messageOk}
 use Rattle.model.specs.Rules.{asTrue, workable}
 use Rattle.model.specs.Size.{fits}
-use Rattle.model.specs.Reading.{Reading, nothing, begun, Step, go, fault, check, headerForm, withHeader, admitHeader, stationOf, eventOf, eventForm, withEvent, unasked, unsent, admitEvent, messageOf, withMessage, admitMessage, withQuestion, asked, admitQuestion, admit, Result, refused, accepted, finish, proceed, readItems, readLog, readFrames, readList}
-use Rattle.codec.proofs.Bytes.{length-words}
+use Rattle.model.specs.Reading.{Reading, nothing, begun, Step, go, fault, check, reportSize, reportsOf, headerKind, headerForm, withHeader, admitHeader, stationOf, eventOf, eventForm, withEvent, unasked, unsent, admitEvent, messageOf, withMessage, admitMessage, withQuestion, asked, admitQuestion, admit, Result, refused, accepted, finish, proceed, readItems, readLog, readFrames, readList}
+use Rattle.lattice.proofs.Reports.{length-reports}
 use Rattle.codec.proofs.Cases.{cases, and-true, between-true}
 
 -- ONE FRAME
 
 -- A frame that is let in, with the tests that it passed, and what has been read after it.
 pub data Admission (m : Limits) (r : Reading) : List ℕ → Reading → Type 0 where
-  a-header : {f : List ℕ} → begun r ≡ false → headerForm m f ≡ true → Admission m r (0x10 ∷ f) (withHeader r f)
+  a-header : {p : Bool} {f : List ℕ} → begun r ≡ false → headerForm m p f ≡ true → Admission m r (headerKind p ∷ f) (withHeader p r f)
   a-event :
       {f : List ℕ}
       → begun r ≡ true
       → unasked r ≡ true
       → unsent r ≡ true
       → ltb (eventCount (r .computation)) (m .events) ≡ true
-      → eventForm (stations (r .computation)) f ≡ true
-      → clockOk (r .computation) (stationOf f) (eventOf f .clock) ≡ true
+      → eventForm (r .panelled) (stations (r .computation)) f ≡ true
+      → clockOk (r .computation) (stationOf f) (eventOf (r .panelled) f .clock) ≡ true
       → Admission m r (0x20 ∷ f) (withEvent r f)
   a-message :
       {f : List ℕ}
@@ -62,12 +62,12 @@ check-go k true s r e = (refl, e)
 check-go k false s r e = fault-go e
 
 module _ (m : Limits) (r s : Reading) (f : List ℕ) where
-  by-header : admitHeader m r f ≡ go s → Admission m r (0x10 ∷ f) s
+  by-header : (p : Bool) → admitHeader m p r f ≡ go s → Admission m r (headerKind p ∷ f) s
   unfolding admitHeader
-  by-header e =
+  by-header p e =
       let a = check-go 4 (bool.not (begun r)) _ s e in
-      let b = check-go 5 (headerForm m f) _ s (a .1) in
-      let n : withHeader r f ≡ s = cc (b .1) in
+      let b = check-go 5 (headerForm m p f) _ s (a .1) in
+      let n : withHeader p r f ≡ s = cc (b .1) in
       rw (← n) (a-header (not-true (begun r) (a .0)) (b .0))
 
   by-event : admitEvent m r f ≡ go s → Admission m r (0x20 ∷ f) s
@@ -77,8 +77,8 @@ module _ (m : Limits) (r s : Reading) (f : List ℕ) where
       let t = and-true (begun r && unasked r && unsent r) (ltb (eventCount (r .computation)) (m .events)) (a .0) in
       let v = and-true (begun r && unasked r) (unsent r) (t .0) in
       let u = and-true (begun r) (unasked r) (v .0) in
-      let b = check-go 6 (eventForm (stations (r .computation)) f) _ s (a .1) in
-      let c = check-go 7 (clockOk (r .computation) (stationOf f) (eventOf f .clock)) _ s (b .1) in
+      let b = check-go 6 (eventForm (r .panelled) (stations (r .computation)) f) _ s (a .1) in
+      let c = check-go 7 (clockOk (r .computation) (stationOf f) (eventOf (r .panelled) f .clock)) _ s (b .1) in
       let n : withEvent r f ≡ s = cc (c .1) in
       rw (← n) (a-event (u .0) (u .1) (v .1) (t .1) (b .0) (c .0))
 
@@ -112,19 +112,21 @@ module _ (m : Limits) (r s : Reading) (f : List ℕ) where
 
 -- The kind decides which rule a frame passed.
 pub admitted : (m : Limits) (r s : Reading) (f : List ℕ) → admit m r f ≡ go s → Admission m r f s
-unfolding admit
+unfolding admit headerKind
 admitted m r s [] e = fault-go e
 admitted m r s (k ∷ f) e =
-    cases (eqb k 0x10) e (λ t e. rw (eqb-true k 0x10 t) (by-header m r s f e)) (λ t e.
+    cases (eqb k 0x10) e (λ t e. rw (eqb-true k 0x10 t) (by-header m r s f false e)) (λ t e.
+    cases (eqb k 0x11) e (λ t e. rw (eqb-true k 0x11 t) (by-header m r s f true e)) (λ t e.
     cases (eqb k 0x20) e (λ t e. rw (eqb-true k 0x20 t) (by-event m r s f e)) (λ t e.
     cases (eqb k 0x25) e (λ t e. rw (eqb-true k 0x25 t) (by-message m r s f e)) (λ t e.
     cases (eqb k 0x30) e (λ t e. rw (eqb-true k 0x30 t) (by-question m r s f e)) (λ t e.
-    fault-go e))))
+    fault-go e)))))
 
 -- A frame that passed the tests of its kind is let in.
 pub admission-go : {m : Limits} {r s : Reading} {f : List ℕ} → Admission m r f s → admit m r f ≡ go s
-unfolding admit admitHeader admitEvent admitMessage admitQuestion asked check
-admission-go (a-header a b) = rw (a, b)
+unfolding admit headerKind admitHeader admitEvent admitMessage admitQuestion asked check
+admission-go (a-header {p = true} a b) = rw (a, b)
+admission-go (a-header {p = false} a b) = rw (a, b)
 admission-go (a-event a b c d e f) = rw (a, b, c, d, e, f)
 admission-go (a-message a b c d e) = rw (a, b, c, d, e)
 admission-go (a-question a b c d e f) = rw (a, b, c, d, e, f)
@@ -147,25 +149,26 @@ pub unsent-true : (r : Reading) → unsent r ≡ true → length (r .computation
 unfolding unsent
 unsent-true r h = eqb-true (length (r .computation .messages)) 0 h
 
--- A header without its kind: the number of stations is within its limit, and each brings a value.
-pub record Header (m : Limits) (f : List ℕ) : Type 0 where
+-- A header without its kind: the number of stations is within its limit, and each brings a report.
+pub record Header (m : Limits) (p : Bool) (f : List ℕ) : Type 0 where
   pub low : 1 ≤ getD f 0 0
   pub high : getD f 0 0 ≤ m .stations
-  pub size : length f ≡ 1 + 2 * getD f 0 0
-  pub values : length (words (drop 1 f)) ≡ getD f 0 0
+  pub size : length f ≡ 1 + getD f 0 0 * reportSize p
+  pub reports : length (reportsOf p (getD f 0 0) (drop 1 f)) ≡ getD f 0 0
 
-pub header-true : (m : Limits) (f : List ℕ) → headerForm m f ≡ true → Header m f
+pub header-true : (m : Limits) (p : Bool) (f : List ℕ) → headerForm m p f ≡ true → Header m p f
 unfolding headerForm
-header-true m f h =
-    let t = and-true (leb 1 (length f) && between 1 (m .stations) (getD f 0 0)) (eqb (length f) (1 + 2 * getD f 0 0)) h in
+header-true m p f h =
+    let t = and-true (leb 1 (length f) && between 1 (m .stations) (getD f 0 0)) (eqb (length f) (1 + getD f 0 0 * reportSize p)) h in
     let n = between-true 1 (m .stations) (getD f 0 0) (and-true (leb 1 (length f)) (between 1 (m .stations) (getD f 0 0)) (t .0) .1) in
-    let s = eqb-true (length f) (1 + 2 * getD f 0 0) (t .1) in
-    record { low = n .0; high = n .1; size = s; values = omega (arith, length-words (drop 1 f), length-drop 1 f) }
+    record { low = n .0; high = n .1; size = eqb-true (length f) (1 + getD f 0 0 * reportSize p) (t .1); reports = length-reports p (getD f 0 0) (drop 1 f) }
 
 -- An event without its kind.
-pub event-true : (n : ℕ) (f : List ℕ) → eventForm n f ≡ true → (length f ≡ n + 3) × (stationOf f < n)
+pub event-true : (p : Bool) (n : ℕ) (f : List ℕ) → eventForm p n f ≡ true → (length f ≡ 1 + reportSize p + n) × (stationOf f < n)
 unfolding eventForm
-event-true n f h = let t = and-true (eqb (length f) (n + 3)) (ltb (stationOf f) n) h in (eqb-true (length f) (n + 3) (t .0), ltb-true (stationOf f) n (t .1))
+event-true p n f h =
+    let t = and-true (eqb (length f) (1 + reportSize p + n)) (ltb (stationOf f) n) h in
+    (eqb-true (length f) (1 + reportSize p + n) (t .0), ltb-true (stationOf f) n (t .1))
 
 -- ALL FRAMES
 

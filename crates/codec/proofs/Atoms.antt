@@ -1,5 +1,5 @@
 -- Atoms and their bytes: an atom is read back from its bytes, and bytes that are read as an atom are its bytes.
-use mathlib.Core.Path.{_≡_, refl, ap₂}
+use mathlib.Core.Path.{_≡_, refl, ap₂, _∙_}
 use mathlib.Core.Logic.{_⊎_, inl, inr}
 use mathlib.Core.List.{List, [], _∷_, _++_}
 use mathlib.Core.Option.{none, some}
@@ -9,7 +9,9 @@ use lib.Dec.{eqb}
 use lib.ListN.{length, take}
 use borrow.Author.Tests.{eqb-true, ne-eqb}
 use Rattle.model.specs.Frames.{word}
-use Rattle.model.specs.Atom.{Atom, atomBytes, operands, atomOf}
+use Rattle.model.specs.declared.Aspect.{Aspect}
+use Rattle.model.specs.declared.Aspect.the-variants.{Value, Panel}
+use Rattle.model.specs.Atom.{Atom, rangeToken, atomBytes, operands, rangeOf, atomOf}
 use Rattle.model.specs.Atom.Atom.{inRange, clear}
 use Rattle.codec.proofs.Bytes.{Bytes}
 use Rattle.codec.proofs.Cases.{none-some, cases}
@@ -17,25 +19,26 @@ use Rattle.codec.proofs.Cases.{none-some, cases}
 -- TOKENS
 
 -- The tokens of atoms, each with its bytes.
-token-some : (t k : ℕ) → operands t ≡ some k → ((t ≡ 1) × (k ≡ 5)) ⊎ ((t ≡ 7) × (k ≡ 2))
-unfolding operands
+token-some : (t k : ℕ) → operands t ≡ some k → ((a : Aspect) × (t ≡ rangeToken a) × (k ≡ 5)) ⊎ ((t ≡ 7) × (k ≡ 2))
+unfolding operands rangeToken
 token-some t k e =
-    cases (eqb t 1) e (λ h e. inl (eqb-true t 1 h, cc)) (λ h e.
+    cases (eqb t 1) e (λ h e. inl (Value, eqb-true t 1 h, cc)) (λ h e.
     cases (eqb t 7) e (λ h e. inr (eqb-true t 7 h, cc)) (λ h e.
-    none-some e))
+    cases (eqb t 8) e (λ h e. inl (Panel, eqb-true t 8 h, cc)) (λ h e.
+    none-some e)))
 
 -- Any other token is no atom's, a sign's for one.
-pub token-none : (t : ℕ) → (t ≡ 1 → ⊥) → (t ≡ 7 → ⊥) → operands t ≡ none
+pub token-none : (t : ℕ) → (t ≡ 1 → ⊥) → (t ≡ 7 → ⊥) → (t ≡ 8 → ⊥) → operands t ≡ none
 unfolding operands
-token-none t h g = rw (ne-eqb t 1 h, ne-eqb t 7 g)
+token-none t h g k = rw (ne-eqb t 1 h, ne-eqb t 7 g, ne-eqb t 8 k)
 
 pub sign-none : (t : ℕ) → 1 < t → t < 7 → operands t ≡ none
-sign-none t h l = token-none t (λ e. omega arith) (λ e. omega arith)
+sign-none t h l = token-none t (λ e. omega arith) (λ e. omega arith) (λ e. omega arith)
 
 pub operands-small : (t k : ℕ) → operands t ≡ some k → k ≤ 5
 operands-small t k e =
     elim (token-some t k e) [
-      | inl x ↦ omega (arith, x .1)
+      | inl x ↦ omega (arith, x .2)
       | inr x ↦ omega (arith, x .1)
     ]
 
@@ -49,32 +52,46 @@ pub record Spelling (a : Atom) : Type 0 where
   pub many : operands token ≡ some (length bytes)
   pub back : (q : List ℕ) → atomOf token (bytes ++ q) ≡ a
 
+-- The token of a range tells what is looked at.
+pub range-operands : (a : Aspect) → operands (rangeToken a) ≡ some 5
+unfolding operands rangeToken
+range-operands Value = refl
+range-operands Panel = refl
+
+pub range-of : (a : Aspect) (q : List ℕ) → atomOf (rangeToken a) q ≡ rangeOf a q
+unfolding atomOf rangeToken
+range-of Value q = refl
+range-of Panel q = refl
+
 pub spelling : (a : Atom) → Spelling a
-unfolding atomBytes operands atomOf word
-spelling (inRange s lo hi) = record {
-  token = 1;
+unfolding atomBytes operands atomOf rangeOf word
+spelling (inRange a s lo hi) = record {
+  token = rangeToken a;
   bytes = s ∷ (lo / 256) ∷ (lo % 256) ∷ (hi / 256) ∷ (hi % 256) ∷ [];
   are = refl;
-  many = refl;
-  back = λ q. ap₂ (inRange s) (omega arith) (omega arith);
+  many = range-operands a;
+  back = λ q. range-of a (s ∷ (lo / 256) ∷ (lo % 256) ∷ (hi / 256) ∷ (hi % 256) ∷ q) ∙ whole;
 }
+  where
+    whole : inRange a s (256 * (lo / 256) + lo % 256) (256 * (hi / 256) + hi % 256) ≡ inRange a s lo hi
+    whole = ap₂ (inRange a s) (omega arith) (omega arith)
 spelling (clear i j) = record { token = 7; bytes = i ∷ j ∷ []; are = refl; many = refl; back = λ q. refl }
 
 -- FROM BYTES TO AN ATOM
 
 -- What an atom names fits its bytes.
 abbrev pub SmallAtom : Atom → Type 0
-SmallAtom (inRange s lo hi) = (s < 256) × (lo < 256 * 256) × (hi < 256 * 256)
+SmallAtom (inRange a s lo hi) = (s < 256) × (lo < 256 * 256) × (hi < 256 * 256)
 SmallAtom (clear i j) = (i < 256) × (j < 256)
 
-range-bytes : (q : List ℕ) → 5 ≤ length q → Bytes q → (atomBytes (atomOf 1 q) ≡ 1 ∷ take 5 q) × SmallAtom (atomOf 1 q)
-unfolding atomBytes atomOf word
-range-bytes [] h g = absurd (omega arith)
-range-bytes (s ∷ []) h g = absurd (omega arith)
-range-bytes (s ∷ a ∷ []) h g = absurd (omega arith)
-range-bytes (s ∷ a ∷ b ∷ []) h g = absurd (omega arith)
-range-bytes (s ∷ a ∷ b ∷ c ∷ []) h g = absurd (omega arith)
-range-bytes (s ∷ a ∷ b ∷ c ∷ d ∷ q) h g =
+range-bytes : (x : Aspect) (q : List ℕ) → 5 ≤ length q → Bytes q → (atomBytes (rangeOf x q) ≡ rangeToken x ∷ take 5 q) × SmallAtom (rangeOf x q)
+unfolding atomBytes rangeOf word
+range-bytes x [] h g = absurd (omega arith)
+range-bytes x (s ∷ []) h g = absurd (omega arith)
+range-bytes x (s ∷ a ∷ []) h g = absurd (omega arith)
+range-bytes x (s ∷ a ∷ b ∷ []) h g = absurd (omega arith)
+range-bytes x (s ∷ a ∷ b ∷ c ∷ []) h g = absurd (omega arith)
+range-bytes x (s ∷ a ∷ b ∷ c ∷ d ∷ q) h g =
     let hs : s < 256 = g 0 in
     let ha : a < 256 = g 1 in
     let hb : b < 256 = g 2 in
@@ -96,20 +113,25 @@ clear-bytes (i ∷ j ∷ q) h g = (refl, (g 0, g 1))
 pub atom-bytes : (t k : ℕ) (q : List ℕ) → operands t ≡ some k → k ≤ length q → Bytes q → (atomBytes (atomOf t q) ≡ t ∷ take k q) × SmallAtom (atomOf t q)
 atom-bytes t k q e h g =
     elim (token-some t k e) [
-      | inl x ↦ rw (x .0, x .1) (range-bytes q (omega (arith, x .1)) g)
+      | inl x ↦ rw (x .1, x .2, range-of (x .0) q) (range-bytes (x .0) q (omega (arith, x .2)) g)
       | inr x ↦ rw (x .0, x .1) (clear-bytes q (omega (arith, x .1)) g)
     ]
 
 -- The bytes of a small atom are bytes.
+range-token : (a : Aspect) → rangeToken a < 256
+unfolding rangeToken
+range-token Value = omega arith
+range-token Panel = omega arith
+
 pub bytes-atom : (a : Atom) → SmallAtom a → Bytes (atomBytes a)
 unfolding atomBytes
-bytes-atom (inRange s lo hi) (h, g, k) zero = omega arith
-bytes-atom (inRange s lo hi) (h, g, k) (suc zero) = h
-bytes-atom (inRange s lo hi) (h, g, k) (suc (suc zero)) = omega arith
-bytes-atom (inRange s lo hi) (h, g, k) (suc (suc (suc zero))) = omega arith
-bytes-atom (inRange s lo hi) (h, g, k) (suc (suc (suc (suc zero)))) = omega arith
-bytes-atom (inRange s lo hi) (h, g, k) (suc (suc (suc (suc (suc zero))))) = omega arith
-bytes-atom (inRange s lo hi) (h, g, k) (suc (suc (suc (suc (suc (suc i)))))) = omega arith
+bytes-atom (inRange a s lo hi) (h, g, k) zero = range-token a
+bytes-atom (inRange a s lo hi) (h, g, k) (suc zero) = h
+bytes-atom (inRange a s lo hi) (h, g, k) (suc (suc zero)) = omega arith
+bytes-atom (inRange a s lo hi) (h, g, k) (suc (suc (suc zero))) = omega arith
+bytes-atom (inRange a s lo hi) (h, g, k) (suc (suc (suc (suc zero)))) = omega arith
+bytes-atom (inRange a s lo hi) (h, g, k) (suc (suc (suc (suc (suc zero))))) = omega arith
+bytes-atom (inRange a s lo hi) (h, g, k) (suc (suc (suc (suc (suc (suc i)))))) = omega arith
 bytes-atom (clear i j) (h, g) zero = omega arith
 bytes-atom (clear i j) (h, g) (suc zero) = h
 bytes-atom (clear i j) (h, g) (suc (suc zero)) = g

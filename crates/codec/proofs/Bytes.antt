@@ -1,11 +1,10 @@
--- Lists of bytes: numbers below 256; and the numbers that two bytes make.
-use mathlib.Core.Path.{_≡_, refl}
-use Prim.Native.Nat.{ℕ, zero, suc, _+_, _*_, _/_, _<_}
+-- Lists of bytes: numbers below 256.
+
+use Prim.Native.Nat.{ℕ, zero, suc, _+_, _<_}
 use mathlib.Core.List.{List, [], _∷_, _++_}
 use native.Mathlib.Omega.{arith}
-use lib.ListN.{length, getD, drop}
+use lib.ListN.{getD, drop}
 use lib.Seq.{getD-drop}
-use Rattle.model.specs.Frames.{word, words}
 
 -- Each number is a byte.
 abbrev pub Bytes : List ℕ → Type 0
@@ -35,23 +34,3 @@ bytes-right (x ∷ l) m h = bytes-right l m (bytes-tail x (l ++ m) h)
 
 pub bytes-drop : (n : ℕ) (l : List ℕ) → Bytes l → Bytes (drop n l)
 bytes-drop n l h i = rw getD-drop (h (n + i))
-
--- TWO BYTES
-
-pub word-small : (f : List ℕ) → Bytes f → word f < 256 * 256
-unfolding word
-word-small f h = omega (arith, h 0, h 1)
-
-pub words-small : (f : List ℕ) → Bytes f → (j : ℕ) → getD (words f) j 0 < 256 * 256
-unfolding words
-words-small [] h j = omega arith
-words-small (a ∷ []) h j = omega arith
-words-small (a ∷ b ∷ f) h zero = omega (arith, h 0, h 1)
-words-small (a ∷ b ∷ f) h (suc j) = words-small f (λ i. h (suc (suc i))) j
-
--- Two bytes a number.
-pub length-words : (f : List ℕ) → length (words f) ≡ length f / 2
-unfolding words
-length-words [] = refl
-length-words (h ∷ []) = refl
-length-words (h ∷ l ∷ f) = omega (arith, length-words f)

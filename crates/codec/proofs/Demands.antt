@@ -92,7 +92,7 @@ opened-asked {m} log q K f e = by (readLog m log) refl e
     posed-is r h (some g) i e =
         let y : r .computation ≡ K = cc in
         let z : g ≡ f = cc in
-        rw (sym y, sym z) (record { frames = r .frames; questions = r .questions; reads = h; is = i })
+        rw (sym y, sym z) (record { panelled = r .panelled; frames = r .frames; questions = r .questions; reads = h; is = i })
 
     by : (o : Result) → readLog m log ≡ o → openingOf o q ≡ poses K f → Asked m log q K f
     by (refused k n) h e = let z : _≡_ {A = ℕ} 0 1 = cc in absurd (omega arith)

@@ -17,7 +17,7 @@ use Rattle.model.specs.Bytes.{linesOf, Item, frame, bad, items}
 use Rattle.model.specs.Frames.{framesOf}
 use Rattle.model.specs.Formula.{Formula}
 use Rattle.model.specs.Computation.{Computation, stations, eventCount}
-use Rattle.model.specs.Reading.{Reading, nothing, fault, check, headerForm, stationOf, eventOf, eventForm, withEvent, messageOf, admitEvent, admit, Result, refused, accepted, proceed, readItems, readLog, readFrames, readList}
+use Rattle.model.specs.Reading.{Reading, nothing, fault, check, reportSize, headerForm, stationOf, eventOf, eventForm, withEvent, messageOf, admitEvent, admit, Result, refused, accepted, proceed, readItems, readLog, readFrames, readList}
 use Rattle.model.specs.Operations.{readEffect, readOp, opening, forecastOp, answerOp, holdsOp, writeEffect, writeOp, printedOf, printed}
 use Rattle.model.specs.Promise.{Asked, Stays, Sized}
 use Rattle.lattice.proofs.Histories.{eventCount-extended}
@@ -35,16 +35,16 @@ less-up : (a b c : ℕ) → b ≤ c → ltb a b ≡ true → ltb a c ≡ true
 less-up a b c h t = lt-ltb a c (omega (arith, ltb-true a b t))
 
 module _ {m m′ : Limits} (up : NoLarger m m′) where
-  header-up : (f : List ℕ) → headerForm m f ≡ true → headerForm m′ f ≡ true
+  header-up : (p : Bool) (f : List ℕ) → headerForm m p f ≡ true → headerForm m′ p f ≡ true
   unfolding headerForm
-  header-up f h =
-      let a = and-true (leb 1 (length f) && between 1 (m .stations) (getD f 0 0)) (eqb (length f) (1 + 2 * getD f 0 0)) h in
+  header-up p f h =
+      let a = and-true (leb 1 (length f) && between 1 (m .stations) (getD f 0 0)) (eqb (length f) (1 + getD f 0 0 * reportSize p)) h in
       let b = and-true (leb 1 (length f)) (between 1 (m .stations) (getD f 0 0)) (a .0) in
       let c = between-true 1 (m .stations) (getD f 0 0) (b .1) in
       rw (b .0, a .1, between-in 1 (m′ .stations) (getD f 0 0) (c .0) (le-trans (c .1) (up .stations)))
 
   admission-up : {r s : Reading} {f : List ℕ} → Admission m r f s → Admission m′ r f s
-  admission-up (a-header {f = f} a b) = a-header a (header-up f b)
+  admission-up (a-header {p = p} {f = f} a b) = a-header a (header-up p f b)
   admission-up {r} (a-event a b s c d e) = a-event a b s (less-up (eventCount (r .computation)) (m .events) (m′ .events) (up .events) c) d e
   admission-up {r} (a-message a b c d e) = a-message a b (less-up (length (r .computation .messages)) (m .messages) (m′ .messages) (up .messages) c) d e
   admission-up {r} (a-question a b c d e w) = a-question a (less-up (length (r .questions)) (m .questions) (m′ .questions) (up .questions) b) c d e w
@@ -90,7 +90,7 @@ module _ {m m′ : Limits} (up : NoLarger m m′) where
 
   -- A question of it.
   pub asked-up : {log : List ℕ} {q : ℕ} {K : Computation} {f : Formula} → Asked m log q K f → Asked m′ log q K f
-  asked-up {log} a = record { frames = a .frames; questions = a .questions; reads = log-up log _ (a .reads); is = a .is }
+  asked-up {log} a = record { panelled = a .panelled; frames = a .frames; questions = a .questions; reads = log-up log _ (a .reads); is = a .is }
 
 -- The operations had the program's limits before they were raised: what they accepted is as it was.
 pub as-before : (log : List ℕ) (r : Reading) → readLog printLimits log ≡ accepted r → Stays printLimits limits log r
@@ -99,8 +99,8 @@ as-before = stays print-within
 -- DOWNWARDS, where the numbers of stations, messages and questions have the same limits
 
 -- An event frame brings one event more, and no frame takes one away.
-event-more : {m : Limits} {r : Reading} → Lawful m r → (f : List ℕ) → eventForm (stations (r .computation)) f ≡ true → eventCount (withEvent r f .computation) ≡ suc (eventCount (r .computation))
-event-more {m} {r} law f t = eventCount-extended (r .computation) (stationOf f) (eventOf f) (omega (arith, law .valid .sizes, event-true (stations (r .computation)) f t .1))
+event-more : {m : Limits} {r : Reading} → Lawful m r → (f : List ℕ) → eventForm (r .panelled) (stations (r .computation)) f ≡ true → eventCount (withEvent r f .computation) ≡ suc (eventCount (r .computation))
+event-more {m} {r} law f t = eventCount-extended (r .computation) (stationOf f) (eventOf (r .panelled) f) (omega (arith, law .valid .sizes, event-true (r .panelled) (stations (r .computation)) f t .1))
 
 events-kept : {m : Limits} {r s : Reading} {f : List ℕ} → Lawful m r → Admission m r f s → eventCount (r .computation) ≤ eventCount (s .computation)
 unfolding sum
@@ -127,7 +127,7 @@ Comes m o s = ((eventCount (s .computation) ≤ m .events) × (o ≡ accepted s)
 module _ (m m′ : Limits) (stationed : m .stations ≡ m′ .stations) (sent : m .messages ≡ m′ .messages) (posed : m .questions ≡ m′ .questions) where
   admission-down : {r s : Reading} {f : List ℕ} → Lawful m r → Admission m′ r f s → Admission m r f s ⊎ Above m r f s
   unfolding headerForm admit admitEvent check
-  admission-down law (a-header {f = f} b t) = inl (a-header {f = f} b (rw stationed t))
+  admission-down law (a-header {p = p} {f = f} b t) = inl (a-header {p = p} {f = f} b (rw stationed t))
   admission-down law (a-message b u c t o) = inl (a-message b u (rw sent c) t o)
   admission-down law (a-question b c p t o w) = inl (a-question b (rw posed c) p t o w)
   admission-down {r} law (a-event {f = f} b u v c t o) = by (ltb (eventCount (r .computation)) (m .events)) refl

@@ -1,30 +1,33 @@
 -- What every admitted frame keeps: the laws of clocks, the limits, and the agreement of questions and frames.
 use mathlib.Core.Path.{_≡_, refl, ap, _∙_}
 use mathlib.Core.Logic.{inl, inr}
-use Prim.Native.Nat.{ℕ, zero, suc, _+_, _*_, _≤_, _<_}
+use Prim.Native.Nat.{ℕ, zero, suc, _+_, _≤_, _<_}
 use native.Mathlib.Decide.{decLe}
 use native.Mathlib.Omega.{arith}
-use mathlib.Core.Bool.{true}
-use mathlib.Core.List.{List, [], _∷_}
+use mathlib.Core.Bool.{Bool, true, false}
+use mathlib.Core.List.{List, [], _∷_, _++_}
 use mathlib.Core.Option.{some}
-use lib.ListN.{length, getD, drop, getElem?, length-append, length-drop}
+use lib.ListN.{length, getD, drop, getElem?, length-append, length-drop, List·getD-append}
 use borrow.Author.Tests.{ltb-true}
 use Rattle.model.specs.declared.Limits.{Limits}
-use Rattle.model.specs.Frames.{words}
 use Rattle.model.specs.Formula.{Formula, sound}
-use Rattle.model.specs.Computation.{Event, Message, Computation, stations, count, eventCount, value}
+use Rattle.model.specs.Computation.{Report, Event, Message, Computation, stations, count, eventCount, noReport, report}
 use Rattle.model.specs.Rules.{asTrue, workable}
 use Rattle.model.specs.Size.{fits}
-use Rattle.model.specs.Reading.{Reading, nothing, go, opened, stationOf, eventOf, extended, messageOf, informed, admit}
+use Rattle.model.specs.Reading.{Reading, begun, nothing, go, reportSize, reportOf, reportsOf, headerKind, opened, stationOf, eventOf, extended, messageOf, informed, admit}
 use Rattle.lattice.proofs.Valid.{Valid}
-use Rattle.lattice.proofs.Histories.{value-none, value-opened, stations-opened, count-opened, eventCount-opened, stations-extended, old-or-new, value-old, value-new, eventCount-extended}
+use Rattle.lattice.proofs.Histories.{report-none, report-opened, stations-opened, count-opened, eventCount-opened, stations-extended, old-or-new, report-old, report-new, eventCount-extended}
 use Rattle.lattice.proofs.Clocks.{opened-valid, extended-valid, informed-valid}
-use Rattle.codec.proofs.Bytes.{Bytes, bytes-drop, word-small, words-small}
-use Rattle.codec.proofs.Cases.{none-some, Each}
-use Rattle.codec.proofs.Snoc.{empty-list, getElem?-snoc, each-snoc}
-use Rattle.codec.proofs.QuestionFrames.{Framed, framed-none, framed-other, framed-question}
-use Rattle.codec.proofs.Messages.{messages-opened, messages-extended, message-more, stations-informed, eventCount-informed, value-informed}
+use Rattle.lattice.proofs.Reports.{header-kind, plain-reports}
+use Rattle.codec.proofs.Cases.{none-some}
+use Rattle.codec.proofs.Snoc.{empty-list, getElem?-snoc}
+use Rattle.codec.proofs.QuestionFrames.{kindOf, Framed, framed-none, framed-other, framed-question}
+use Rattle.codec.proofs.Messages.{messages-opened, messages-extended, message-more, stations-informed, eventCount-informed, report-informed}
 use Rattle.codec.proofs.Accepted.{Admission, a-header, a-event, a-message, a-question, admitted, begun-true, begun-false, unasked-true, Header, header-true, event-true}
+
+-- Every panel is 0.
+abbrev pub Plain : Computation → Type 0
+Plain K = (j k : ℕ) → report K j k .panel ≡ 0
 
 pub record Lawful (m : Limits) (r : Reading) : Type 0 where
   -- before the header nothing has been read
@@ -38,27 +41,48 @@ pub record Lawful (m : Limits) (r : Reading) : Type 0 where
   pub few-questions : length (r .questions) ≤ m .questions
   -- the questions name stations that are there, are not too large, and can be worked out
   pub good : (q : ℕ) (φ : Formula) → getElem? (r .questions) q ≡ some φ → (sound (stations (r .computation)) φ ≡ true) × (fits φ ≡ true) × (workable (asTrue φ) ≡ true)
-  -- the values are of two bytes
-  pub small : Each Bytes (r .frames) → (j k : ℕ) → value (r .computation) j k < 256 * 256
+  -- the header stands first, and where it says that no panels are carried each is 0
+  pub headed : 0 < stations (r .computation) → kindOf (getD (r .frames) 0 []) ≡ headerKind (r .panelled)
+  pub plain : r .panelled ≡ false → Plain (r .computation)
   -- a header, a frame for each event, for each message, for each question
   pub framed : Framed (r .frames) (r .questions)
   pub counted : 0 < stations (r .computation) → length (r .frames) ≡ suc (eventCount (r .computation) + length (r .computation .messages) + length (r .questions))
 
--- VALUES
+-- PANELS
 
-opened-small : (values : List ℕ) → ((j : ℕ) → getD values j 0 < 256 * 256) → (j k : ℕ) → value (opened values) j k < 256 * 256
-opened-small values h j zero = omega (arith, h j, value-opened values j)
-opened-small values h j (suc k) = omega (arith, value-none (opened values) j (suc k) (omega (arith, count-opened values j)))
+panel-of : {x y : Report} → x ≡ y → x .panel ≡ y .panel
+panel-of e = ap (λ (x : Report). x .panel) e
 
-extended-small : (K : Computation) (s : ℕ) (e : Event) → s < length (K .events) → ((j k : ℕ) → value K j k < 256 * 256) → e .value < 256 * 256 → (j k : ℕ) → value (extended K s e) j k < 256 * 256
-extended-small K s e there old new j k =
+opened-plain : (reports : List Report) → ((j : ℕ) → getD reports j noReport .panel ≡ 0) → Plain (opened reports)
+opened-plain reports h j zero = panel-of (report-opened reports j) ∙ h j
+opened-plain reports h j (suc k) = panel-of (report-none (opened reports) j (suc k) (omega (arith, count-opened reports j)))
+
+extended-plain : (K : Computation) (s : ℕ) (e : Event) → s < length (K .events) → Plain K → e .report .panel ≡ 0 → Plain (extended K s e)
+extended-plain K s e there old new j k =
     elim (decLe k (count (extended K s e) j)) [
       | yes l ↦ elim (old-or-new K s e there j k l) [
-        | inl b ↦ omega (arith, old j k, value-old K s e there j k b)
-        | inr p ↦ rw (p .0, p .1) (omega (arith, value-new K s e there))
+        | inl b ↦ panel-of (report-old K s e there j k b) ∙ old j k
+        | inr p ↦ rw (p .0, p .1) (panel-of (report-new K s e there) ∙ new)
       ]
-      | no l ↦ omega (arith, value-none (extended K s e) j k (omega arith))
+      | no l ↦ panel-of (report-none (extended K s e) j k (omega arith))
     ]
+
+-- A report that carries none.
+plain-report : (p : Bool) (f : List ℕ) → p ≡ false → reportOf p f .panel ≡ 0
+unfolding reportOf
+plain-report p f e = rw e refl
+
+plain-header : (p : Bool) (n : ℕ) (f : List ℕ) → p ≡ false → (j : ℕ) → getD (reportsOf p n f) j noReport .panel ≡ 0
+plain-header p n f e = rw e (plain-reports n f)
+
+-- THE HEADER
+
+some-frames : {m : Limits} {r : Reading} → Lawful m r → begun r ≡ true → 0 < length (r .frames)
+some-frames {m} {r} law h = omega (arith, law .counted (begun-true r h))
+
+-- A frame more leaves it first.
+header-kept : (fs : List (List ℕ)) {k : ℕ} → kindOf (getD fs 0 []) ≡ k → 0 < length fs → (f : List ℕ) → kindOf (getD (fs ++ (f ∷ [])) 0 []) ≡ k
+header-kept fs e h f = ap kindOf (List·getD-append fs (f ∷ []) [] 0 h) ∙ e
 
 -- EVERY READING
 
@@ -72,33 +96,35 @@ nothing-lawful m = record {
   few-messages = omega arith;
   few-questions = omega arith;
   good = λ q φ h. none-some h;
-  small = λ h. opened-small [] (λ j. omega arith);
+  headed = λ h. absurd (omega arith);
+  plain = λ h. opened-plain [] (λ j. refl);
   framed = framed-none;
   counted = λ h. absurd (omega arith);
 }
 
 pub admitted-lawful : {m : Limits} {r : Reading} {f : List ℕ} {r′ : Reading} → Lawful m r → Admission m r f r′ → Lawful m r′
-admitted-lawful {m} {r} law (a-header {f = f} first form) = record {
+admitted-lawful {m} {r} law (a-header {p = p} {f = f} first form) = record {
   blank = λ h. absurd (omega (arith, many, sizes));
-  valid = opened-valid values;
+  valid = opened-valid reports;
   few-stations = omega (arith, many, sizes);
-  few-events = omega (arith, eventCount-opened values);
-  few-messages = omega (arith, ap length (messages-opened values));
+  few-events = omega (arith, eventCount-opened reports);
+  few-messages = omega (arith, ap length (messages-opened reports));
   few-questions = law .few-questions;
   good = rw unasked (λ q φ h. none-some h);
-  small = λ h. opened-small values (words-small (drop 1 f) (bytes-drop 2 (0x10 ∷ f) (each-snoc Bytes (r .frames) (0x10 ∷ f) h .1)));
-  framed = rw unasked (framed-other (0x10 ∷ f) (omega arith) (rw unasked at (law .framed)));
-  counted = λ h. omega (arith, eventCount-opened values, ap length (messages-opened values), length-append (r .frames) ((0x10 ∷ f) ∷ []), ap (λ (x : Reading). length (x .frames)) before, ap length unasked);
+  headed = λ h. rw (ap (λ (x : Reading). x .frames) before) refl;
+  plain = λ h. opened-plain reports (plain-header p (getD f 0 0) (drop 1 f) h);
+  framed = rw unasked (framed-other (headerKind p ∷ f) (header-kind p) (rw unasked at (law .framed)));
+  counted = λ h. omega (arith, eventCount-opened reports, ap length (messages-opened reports), length-append (r .frames) ((headerKind p ∷ f) ∷ []), ap (λ (x : Reading). length (x .frames)) before, ap length unasked);
 }
   where
-    sizes : Header m f
-    sizes = header-true m f form
+    sizes : Header m p f
+    sizes = header-true m p f form
 
-    values : List ℕ
-    values = words (drop 1 f)
+    reports : List Report
+    reports = reportsOf p (getD f 0 0) (drop 1 f)
 
-    many : stations (opened values) ≡ getD f 0 0
-    many = stations-opened values ∙ sizes .values
+    many : stations (opened reports) ≡ getD f 0 0
+    many = stations-opened reports ∙ sizes .reports
 
     before : r ≡ nothing
     before = law .blank (begun-false r first)
@@ -107,15 +133,14 @@ admitted-lawful {m} {r} law (a-header {f = f} first form) = record {
     unasked = ap (λ (x : Reading). x .questions) before
 admitted-lawful {m} {r} law (a-event {f = f} begun none-asked none-sent room form ok) = record {
   blank = λ h. absurd (omega (arith, same, begun-true r begun));
-  valid = extended-valid K s e there (law .valid) (omega (arith, length-drop 3 f, sizes)) ok;
+  valid = extended-valid K s e there (law .valid) (omega (arith, length-drop (1 + reportSize p) f, sizes)) ok;
   few-stations = omega (arith, same, law .few-stations);
   few-events = omega (arith, longer, ltb-true (eventCount K) (m .events) room);
   few-messages = omega (arith, law .few-messages, ap length (messages-extended K s e));
   few-questions = law .few-questions;
   good = rw same (law .good);
-  small = λ h.
-      let parts = each-snoc Bytes (r .frames) (0x20 ∷ f) h in
-      extended-small K s e there (law .small (parts .0)) (word-small (drop 1 f) (bytes-drop 2 (0x20 ∷ f) (parts .1)));
+  headed = λ h. header-kept (r .frames) (law .headed (begun-true r begun)) (some-frames law begun) (0x20 ∷ f);
+  plain = λ h. extended-plain K s e there (law .plain h) (plain-report p (drop 1 f) h);
   framed = rw unasked (framed-other (0x20 ∷ f) (omega arith) (rw unasked at (law .framed)));
   counted = λ h. omega (arith, law .counted (begun-true r begun), longer, ap length (messages-extended K s e), length-append (r .frames) ((0x20 ∷ f) ∷ []));
 }
@@ -126,11 +151,14 @@ admitted-lawful {m} {r} law (a-event {f = f} begun none-asked none-sent room for
     s : ℕ
     s = stationOf f
 
-    e : Event
-    e = eventOf f
+    p : Bool
+    p = r .panelled
 
-    sizes : (length f ≡ stations K + 3) × (s < stations K)
-    sizes = event-true (stations K) f form
+    e : Event
+    e = eventOf p f
+
+    sizes : (length f ≡ 1 + reportSize p + stations K) × (s < stations K)
+    sizes = event-true p (stations K) f form
 
     there : s < length (K .events)
     there = omega (arith, law .valid .sizes, sizes)
@@ -151,7 +179,8 @@ admitted-lawful {m} {r} law (a-message {f = f} begun none-asked room form ok) = 
   few-messages = omega (arith, message-more K x, ltb-true (length (K .messages)) (m .messages) room);
   few-questions = law .few-questions;
   good = rw same (law .good);
-  small = λ h j k. omega (arith, value-informed K x j k, law .small (each-snoc Bytes (r .frames) (0x25 ∷ f) h .0) j k);
+  headed = λ h. header-kept (r .frames) (law .headed (begun-true r begun)) (some-frames law begun) (0x25 ∷ f);
+  plain = λ h j k. panel-of (report-informed K x j k) ∙ law .plain h j k;
   framed = rw unasked (framed-other (0x25 ∷ f) (omega arith) (rw unasked at (law .framed)));
   counted = λ h. omega (arith, law .counted (begun-true r begun), eventCount-informed K x, message-more K x, length-append (r .frames) ((0x25 ∷ f) ∷ []));
 }
@@ -175,7 +204,8 @@ admitted-lawful {m} {r} law (a-question {f = f} {φ = φ} begun room is named si
   few-messages = law .few-messages;
   few-questions = omega (arith, ltb-true (length (r .questions)) (m .questions) room, length-append (r .questions) (φ ∷ []));
   good = getElem?-snoc (λ i ψ. (sound (stations (r .computation)) ψ ≡ true) × (fits ψ ≡ true) × (workable (asTrue ψ) ≡ true)) (r .questions) φ (law .good) (named, size, works);
-  small = λ h. law .small (each-snoc Bytes (r .frames) (0x30 ∷ f) h .0);
+  headed = λ h. header-kept (r .frames) (law .headed (begun-true r begun)) (some-frames law begun) (0x30 ∷ f);
+  plain = law .plain;
   framed = framed-question f φ is (law .framed);
   counted = λ h. omega (arith, law .counted (begun-true r begun), length-append (r .frames) ((0x30 ∷ f) ∷ []), length-append (r .questions) (φ ∷ []));
 }

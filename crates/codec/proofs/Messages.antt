@@ -4,13 +4,13 @@ use Prim.Native.Nat.{ℕ, zero, suc}
 use native.Mathlib.Omega.{arith}
 use mathlib.Core.List.{List, [], _∷_, _++_}
 use lib.ListN.{length, length-append}
-use Rattle.model.specs.Computation.{Event, Message, Computation, stations, eventCount, value}
+use Rattle.model.specs.Computation.{Report, Event, Message, Computation, stations, eventCount, report}
 use Rattle.model.specs.Reading.{opened, extended, informed}
 
 -- A header brings no messages, an event leaves them, a message is one more.
-pub messages-opened : (values : List ℕ) → opened values .messages ≡ []
+pub messages-opened : (reports : List Report) → opened reports .messages ≡ []
 unfolding opened
-messages-opened values = refl
+messages-opened reports = refl
 
 pub messages-extended : (K : Computation) (s : ℕ) (e : Event) → extended K s e .messages ≡ K .messages
 unfolding extended
@@ -24,7 +24,7 @@ module _ (K : Computation) (x : Message) where
   pub message-more : length (informed K x .messages) ≡ suc (length (K .messages))
   message-more = rw messages-informed (omega (arith, length-append (K .messages) (x ∷ [])))
 
-  -- Stations, events and values are those before it.
+  -- Stations, events and reports are those before it.
   pub stations-informed : stations (informed K x) ≡ stations K
   unfolding informed
   stations-informed = refl
@@ -33,7 +33,7 @@ module _ (K : Computation) (x : Message) where
   unfolding informed
   eventCount-informed = refl
 
-  pub value-informed : (j k : ℕ) → value (informed K x) j k ≡ value K j k
-  unfolding informed value
-  value-informed j zero = refl
-  value-informed j (suc k) = refl
+  pub report-informed : (j k : ℕ) → report (informed K x) j k ≡ report K j k
+  unfolding informed report
+  report-informed j zero = refl
+  report-informed j (suc k) = refl

@@ -33,7 +33,7 @@ line-at K (f ∷ l) (suc q) line e = line-at K l q line e
 
 module _ (log : List ℕ) (r : Reading) (e : readLog printLimits log ≡ accepted r) where
   asked : (q : ℕ) (f : Formula) → getElem? (r .questions) q ≡ some f → Asked printLimits log q (r .computation) f
-  asked q f i = record { frames = r .frames; questions = r .questions; reads = e; is = i }
+  asked q f i = record { panelled = r .panelled; frames = r .frames; questions = r .questions; reads = e; is = i }
 
   pub prints : Prints log r
   unfolding printed printedOf

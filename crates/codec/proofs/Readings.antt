@@ -1,8 +1,8 @@
 -- What holds of every accepted log and frame list, and of what is asked there.
-use mathlib.Core.Path.{_≡_, sym}
-use Prim.Native.Nat.{ℕ, suc, _+_, _*_, _≤_, _<_}
+use mathlib.Core.Path.{_≡_, refl, sym, _∙_}
+use Prim.Native.Nat.{ℕ, suc, _+_, _≤_, _<_}
 use native.Mathlib.Omega.{arith}
-use mathlib.Core.Bool.{true}
+use mathlib.Core.Bool.{Bool, true, false}
 use mathlib.Core.List.{List, [], _∷_, map}
 use mathlib.Core.Option.{some}
 use lib.ListN.{length, getD}
@@ -12,13 +12,12 @@ use Rattle.model.specs.Bytes.{Item, frame, linesOf, items}
 use Rattle.model.specs.Frames.{framesOf}
 use Rattle.model.specs.Formula.{Formula, sound}
 use Rattle.model.specs.Cut.{_!_}
-use Rattle.model.specs.Computation.{Computation, stations, eventCount, clock, value}
+use Rattle.model.specs.Computation.{Computation, stations, eventCount, clock}
 use Rattle.model.specs.Rules.{asTrue, workable}
 use Rattle.model.specs.Size.{fits}
-use Rattle.model.specs.Reading.{Reading, nothing, accepted, readItems, readLog, readList}
+use Rattle.model.specs.Reading.{Reading, headerKind, nothing, accepted, readItems, readLog, readList}
 use Rattle.model.specs.Promise.{Asked}
 use Rattle.lattice.proofs.Valid.{Valid}
-use Rattle.lattice.proofs.Lists.{all-map}
 use Rattle.lattice.proofs.Consistency.{count-le}
 use Rattle.lattice.proofs.Clocks.{entry-≤}
 use Rattle.codec.proofs.Bytes.{Bytes}
@@ -28,9 +27,9 @@ use Rattle.codec.proofs.Frames.{Sized, frames-bytes}
 use Rattle.codec.proofs.Frames as split
 use Rattle.codec.proofs.Lines.{IsFrame}
 use Rattle.codec.proofs.Logs.{log-items}
-use Rattle.codec.proofs.QuestionFrames.{asFrame, length-frames, question-place, questionFrames}
+use Rattle.codec.proofs.QuestionFrames.{asFrame, kindOf, length-frames, question-place, questionFrames}
 use Rattle.codec.proofs.Accepted.{begun-true, readItems-invariant, accepted-begun, accepted-items, accepted-log, accepted-list}
-use Rattle.codec.proofs.Lawful.{Lawful, nothing-lawful, admitted-lawful}
+use Rattle.codec.proofs.Lawful.{Plain, Lawful, nothing-lawful, admitted-lawful}
 
 -- What holds of all that is read of an accepted log.
 pub record IsAccepted (m : Limits) (r : Reading) : Type 0 where
@@ -84,9 +83,16 @@ module _ {m : Limits} {r : Reading} (law : Lawful m r) where
   pub entries-small : (j k i : ℕ) → clock (r .computation) j k ! i ≤ m .events
   entries-small j k i = omega (arith, entry-≤ (r .computation) (law .valid) j k i, count-le (r .computation) i, law .few-events)
 
-  -- The values of frames of bytes are of two bytes.
-  pub values-small : Each IsFrame (r .frames) → (j k : ℕ) → value (r .computation) j k < 256 * 256
-  values-small h = law .small (all-map (λ f g. g .bytes) h)
+not-panelled : (p : Bool) → headerKind p ≡ 0x10 → p ≡ false
+unfolding headerKind
+not-panelled true e = absurd (omega arith)
+not-panelled false e = refl
+
+-- With a header of kind 10 every panel is 0.
+pub log-plain : (m : Limits) (log : List ℕ) (r : Reading) → readLog m log ≡ accepted r → kindOf (getD (r .frames) 0 []) ≡ 0x10 → Plain (r .computation)
+log-plain m log r e k =
+    let all = log-accepted m log r e in
+    all .lawful .plain (not-panelled (r .panelled) (sym (all .lawful .headed (all .begun)) ∙ k))
 
 -- Question number q stands behind the header, the events and the messages.
 pub question-stands : {m : Limits} {r : Reading} → IsAccepted m r → (q : ℕ) → q < length (r .questions)
@@ -106,7 +112,6 @@ pub record Posed (m : Limits) (K : Computation) (f : Formula) : Type 0 where
   pub named : sound (stations K) f ≡ true
   pub fitting : fits f ≡ true
   pub works : workable (asTrue f) ≡ true
-  pub values : (j k : ℕ) → value K j k < 256 * 256
   pub entries : (j k i : ℕ) → clock K j k ! i ≤ m .events
 
 pub asked-valid : {m : Limits} {log : List ℕ} {q : ℕ} {K : Computation} {f : Formula} → Asked m log q K f → Posed m K f
@@ -122,6 +127,5 @@ asked-valid {m} {log} {q} {K} {f} a =
       named = law .good q f (a .is) .0;
       fitting = law .good q f (a .is) .1;
       works = law .good q f (a .is) .2;
-      values = values-small law (log-are-frames m log _ (a .reads));
       entries = entries-small law;
     }

@@ -98,9 +98,10 @@ module _ (m : Limits) where
   admit-numbered r [] = omega arith
   admit-numbered r (kind ∷ f) =
       either (eqb kind 0x10) _ _ (checked 4 _ _ (omega arith) (checked 5 _ _ (omega arith) tt))
+      (either (eqb kind 0x11) _ _ (checked 4 _ _ (omega arith) (checked 5 _ _ (omega arith) tt))
       (either (eqb kind 0x20) _ _ (checked 4 _ _ (omega arith) (checked 6 _ _ (omega arith) (checked 7 _ _ (omega arith) tt)))
       (either (eqb kind 0x25) _ _ (checked 4 _ _ (omega arith) (checked 15 _ _ (omega arith) tt))
-      (either (eqb kind 0x30) _ _ (checked 4 _ _ (omega arith) (asked-numbered r f _)) (omega arith))))
+      (either (eqb kind 0x30) _ _ (checked 4 _ _ (omega arith) (asked-numbered r f _)) (omega arith)))))
 
   -- A question that passes 4, 8 and 9 is refused with 16 exactly if an atom comes under a sign in which it cannot be worked out.
   pub sixteen :

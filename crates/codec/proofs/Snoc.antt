@@ -7,7 +7,7 @@ use mathlib.Core.Option.{some}
 use lib.ListN.{length, getD, getElem?}
 use Rattle.model.specs.Lists.{Member}
 use Rattle.model.specs.Lists.Some.{here, there}
-use Rattle.codec.proofs.Cases.{none-some, Each, e-none, e-more}
+use Rattle.codec.proofs.Cases.{none-some}
 
 pub empty-list : {A : Type 0} (l : List A) → length l ≡ 0 → l ≡ []
 empty-list [] h = refl
@@ -20,11 +20,6 @@ module _ {A : Type 0} (P : A → Type 0) where
   getD-snoc [] x d h p (suc i) = h 0
   getD-snoc (y ∷ l) x d h p zero = h 0
   getD-snoc (y ∷ l) x d h p (suc i) = getD-snoc l x d (λ j. h (suc j)) p i
-
-  -- And what holds of all then held of all before, and holds of the one.
-  pub each-snoc : (l : List A) (x : A) → Each P (l ++ (x ∷ [])) → Each P l × P x
-  each-snoc [] x (e-more p h) = (e-none, p)
-  each-snoc (y ∷ l) x (e-more p h) = let r = each-snoc l x h in (e-more p (r .0), r .1)
 
 -- What holds of each at its place holds then too, and the one more stands behind all.
 pub getElem?-snoc : {A : Type 0} (P : ℕ → A → Type 0) (l : List A) (x : A) → ((i : ℕ) (y : A) → getElem? l i ≡ some y → P i y) → P (length l) x

@@ -8,8 +8,8 @@ pub record Suitable (m : Limits) : Type 0 where
   pub events : m .events ≤ 254
   pub messages : m .messages ≤ 64
   pub questions : m .questions ≤ 16
-  pub list : 19 + 13 * m .events + 6 * m .messages + 94 * m .questions ≤ m .list
-  pub bytes : 39 + 27 * m .events + 13 * m .messages + 189 * m .questions ≤ m .bytes
+  pub list : 35 + 15 * m .events + 6 * m .messages + 94 * m .questions ≤ m .list
+  pub bytes : 71 + 31 * m .events + 13 * m .messages + 189 * m .questions ≤ m .bytes
 
 -- No limit of m is above that of m′.
 pub record NoLarger (m m′ : Limits) : Type 0 where

@@ -78,6 +78,7 @@ module _ (m : Limits) {r : Reading} {s : State} {f t : List ℕ} (g : Frame 0x30
         step = placed a b ∙ k .step;
         frames = ap (λ (x : List ℕ). r .frames ++ (x ∷ [])) (kind-front f 0x30 (g .some-bytes) (g .kind));
         holds = record {
+          panelled = g .holds .panelled;
           stored = g .holds .stored;
           posted = g .holds .posted;
           sizes = g .holds .sizes;

@@ -1,6 +1,6 @@
 -- Laws of one frame's step: the kind decides, a fault moves nothing, and what a state says of the place. Assumes nothing.
-use mathlib.Core.Path.{_≡_, refl, sym, ap, _∙_}
-use mathlib.Core.Bool.{true, false}
+use mathlib.Core.Path.{_≡_, refl, sym, ap}
+use mathlib.Core.Bool.{Bool, true, false}
 use mathlib.Core.List.{List, [], _∷_}
 use Prim.Native.Nat.{ℕ, _<_, _≤_}
 use native.Mathlib.Omega.{arith}
@@ -9,8 +9,8 @@ use lib.Dec.{ltb}
 use borrow.Author.Tests.{eq-eqb, ne-eqb, lt-ltb, le-ltb}
 use lib.ListN.{length, getD, drop}
 use Rattle.model.specs.declared.Limits.{Limits}
-use Rattle.model.specs.Computation.{stations, eventCount}
-use Rattle.model.specs.Reading.{Reading, begun, unasked, unsent, admit, admitHeader, admitEvent, admitMessage, admitQuestion, fault}
+use Rattle.model.specs.Computation.{stations}
+use Rattle.model.specs.Reading.{Reading, headerKind, begun, admit, admitHeader, admitEvent, admitMessage, admitQuestion, fault}
 use Rattle.model.specs.Reply.{number}
 use Rattle.model.specs.declared.Fault.{Fault}
 use Rattle.codec.specs.Limits.{NoLarger}
@@ -20,30 +20,31 @@ use Rattle.frame.specs.State.{faultyAt, Bounded, Represents, Admits}
 
 -- THE KIND
 module _ (m : Limits) (r : Reading) where
-  pub kind-header : (f : List ℕ) → 1 ≤ length f → getD f 0 0 ≡ 0x10 → admit m r f ≡ admitHeader m r (drop 1 f)
-  unfolding admit
-  kind-header [] l e = absurd (omega arith)
-  kind-header (k ∷ f) l e = rw (eq-eqb k 0x10 e)
+  pub kind-header : (p : Bool) (f : List ℕ) → 1 ≤ length f → getD f 0 0 ≡ headerKind p → admit m r f ≡ admitHeader m p r (drop 1 f)
+  unfolding admit headerKind
+  kind-header p [] l e = absurd (omega arith)
+  kind-header false (k ∷ f) l e = rw (eq-eqb k 0x10 e)
+  kind-header true (k ∷ f) l e = rw (ne-eqb k 0x10 (omega arith), eq-eqb k 0x11 e)
 
   pub kind-event : (f : List ℕ) → 1 ≤ length f → getD f 0 0 ≡ 0x20 → admit m r f ≡ admitEvent m r (drop 1 f)
   unfolding admit
   kind-event [] l e = absurd (omega arith)
-  kind-event (k ∷ f) l e = rw (ne-eqb k 0x10 (omega arith), eq-eqb k 0x20 e)
+  kind-event (k ∷ f) l e = rw (ne-eqb k 0x10 (omega arith), ne-eqb k 0x11 (omega arith), eq-eqb k 0x20 e)
 
   pub kind-message : (f : List ℕ) → 1 ≤ length f → getD f 0 0 ≡ 0x25 → admit m r f ≡ admitMessage m r (drop 1 f)
   unfolding admit
   kind-message [] l e = absurd (omega arith)
-  kind-message (k ∷ f) l e = rw (ne-eqb k 0x10 (omega arith), ne-eqb k 0x20 (omega arith), eq-eqb k 0x25 e)
+  kind-message (k ∷ f) l e = rw (ne-eqb k 0x10 (omega arith), ne-eqb k 0x11 (omega arith), ne-eqb k 0x20 (omega arith), eq-eqb k 0x25 e)
 
   pub kind-question : (f : List ℕ) → 1 ≤ length f → getD f 0 0 ≡ 0x30 → admit m r f ≡ admitQuestion m r (drop 1 f)
   unfolding admit
   kind-question [] l e = absurd (omega arith)
-  kind-question (k ∷ f) l e = rw (ne-eqb k 0x10 (omega arith), ne-eqb k 0x20 (omega arith), ne-eqb k 0x25 (omega arith), eq-eqb k 0x30 e)
+  kind-question (k ∷ f) l e = rw (ne-eqb k 0x10 (omega arith), ne-eqb k 0x11 (omega arith), ne-eqb k 0x20 (omega arith), ne-eqb k 0x25 (omega arith), eq-eqb k 0x30 e)
 
-  pub kind-unknown : (f : List ℕ) → (getD f 0 0 ≡ 0x10 → ⊥) → (getD f 0 0 ≡ 0x20 → ⊥) → (getD f 0 0 ≡ 0x25 → ⊥) → (getD f 0 0 ≡ 0x30 → ⊥) → admit m r f ≡ fault 4
+  pub kind-unknown : (f : List ℕ) → (getD f 0 0 ≡ 0x10 → ⊥) → (getD f 0 0 ≡ 0x11 → ⊥) → (getD f 0 0 ≡ 0x20 → ⊥) → (getD f 0 0 ≡ 0x25 → ⊥) → (getD f 0 0 ≡ 0x30 → ⊥) → admit m r f ≡ fault 4
   unfolding admit
-  kind-unknown [] a b d c = refl
-  kind-unknown (k ∷ f) a b d c = rw (ne-eqb k 0x10 a, ne-eqb k 0x20 b, ne-eqb k 0x25 d, ne-eqb k 0x30 c)
+  kind-unknown [] a e b d c = refl
+  kind-unknown (k ∷ f) a e b d c = rw (ne-eqb k 0x10 a, ne-eqb k 0x11 e, ne-eqb k 0x20 b, ne-eqb k 0x25 d, ne-eqb k 0x30 c)
 
 -- a frame is its kind and what follows
 pub kind-front : (f : List ℕ) (k : ℕ) → 1 ≤ length f → getD f 0 0 ≡ k → k ∷ drop 1 f ≡ f
@@ -70,29 +71,7 @@ module _ {r : Reading} {s : State} {t : List ℕ} (h : Represents r s t) where
   unfolding begun
   begun-yes e = lt-ltb 0 (stations (r .computation)) (omega (arith, h .stored .size))
 
-  pub unasked-not : (s .questions ≡ 0 → ⊥) → unasked r ≡ false
-  unfolding unasked
-  unasked-not e = ne-eqb (length (r .questions)) 0 (λ z. e (h .questions ∙ z))
-
-  pub unasked-yes : s .questions ≡ 0 → unasked r ≡ true
-  unfolding unasked
-  unasked-yes e = eq-eqb (length (r .questions)) 0 (sym (h .questions) ∙ e)
-
-  pub unsent-not : (s .messages ≡ 0 → ⊥) → unsent r ≡ false
-  unfolding unsent
-  unsent-not e = ne-eqb (length (r .computation .messages)) 0 (λ z. e (h .messages ∙ z))
-
-  pub unsent-yes : s .messages ≡ 0 → unsent r ≡ true
-  unfolding unsent
-  unsent-yes e = eq-eqb (length (r .computation .messages)) 0 (sym (h .messages) ∙ e)
-
   module _ (m : Limits) where
-    pub events-full : m .events ≤ s .events → ltb (eventCount (r .computation)) (m .events) ≡ false
-    events-full e = le-ltb (eventCount (r .computation)) (m .events) (omega (arith, h .events))
-
-    pub events-room : s .events < m .events → ltb (eventCount (r .computation)) (m .events) ≡ true
-    events-room e = lt-ltb (eventCount (r .computation)) (m .events) (omega (arith, h .events))
-
     pub questions-full : m .questions ≤ s .questions → ltb (length (r .questions)) (m .questions) ≡ false
     questions-full e = le-ltb (length (r .questions)) (m .questions) (omega (arith, h .questions))
 

@@ -1,6 +1,7 @@
 -- The state of reading in code, and one frame's step.
 use mathlib.Core.Path.{_≡_}
 use Prim.Native.Nat.{ℕ, _+_, _≤_}
+use mathlib.Core.Bool.{Bool, false}
 use mathlib.Core.List.{List, [], _∷_, _++_}
 use lib.ListN.{length, getD, set}
 use Rattle.model.specs.declared.Limits.{Limits}
@@ -18,20 +19,20 @@ use Rattle.frame.specs.declared.Admitted.{Admitted}
 
 -- Nothing has been read.
 abbrev pub fresh : State
-fresh = record { stations = 0; events = 0; messages = 0; questions = 0; counts = empty (limits .stations) }
+fresh = record { panelled = false; stations = 0; events = 0; messages = 0; questions = 0; counts = empty (limits .stations) }
 
 -- The state after a header of n stations, after an event of station j, after a message, after a question.
-abbrev pub afterHeader : State → ℕ → State
-afterHeader s n = record { stations = n; events = 0; messages = 0; questions = s .questions; counts = empty (limits .stations) }
+abbrev pub afterHeader : State → Bool → ℕ → State
+afterHeader s p n = record { panelled = p; stations = n; events = 0; messages = 0; questions = s .questions; counts = empty (limits .stations) }
 
 abbrev pub afterEvent : State → ℕ → State
-afterEvent s j = record { stations = s .stations; events = s .events + 1; messages = s .messages; questions = s .questions; counts = set (s .counts) j (getD (s .counts) j 0 + 1) }
+afterEvent s j = record { panelled = s .panelled; stations = s .stations; events = s .events + 1; messages = s .messages; questions = s .questions; counts = set (s .counts) j (getD (s .counts) j 0 + 1) }
 
 abbrev pub afterMessage : State → State
-afterMessage s = record { stations = s .stations; events = s .events; messages = s .messages + 1; questions = s .questions; counts = s .counts }
+afterMessage s = record { panelled = s .panelled; stations = s .stations; events = s .events; messages = s .messages + 1; questions = s .questions; counts = s .counts }
 
 abbrev pub afterQuestion : State → State
-afterQuestion s = record { stations = s .stations; events = s .events; messages = s .messages; questions = s .questions + 1; counts = s .counts }
+afterQuestion s = record { panelled = s .panelled; stations = s .stations; events = s .events; messages = s .messages; questions = s .questions + 1; counts = s .counts }
 
 -- Where the first question stands among the frames: behind the header, the events and the messages.
 abbrev pub firstQuestion : State → ℕ
@@ -52,6 +53,7 @@ pub record Bounded (m : Limits) (s : State) : Type 0 where
 
 -- The state and the store t represent what has been read.
 pub record Represents (r : Reading) (s : State) (t : List ℕ) : Type 0 where
+  pub panelled : s .panelled ≡ r .panelled
   pub stored : Stored (r .computation) (s .stations) (s .counts) t
   pub posted : Posted (r .computation) t
   pub sizes : length (r .computation .events) ≡ stations (r .computation)

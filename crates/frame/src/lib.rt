@@ -7,8 +7,9 @@ ghost use Prim.Native.Nat.{_≤_, _<_};
 ghost use Rattle.model.specs.Limits.{limits};
 ghost use Rattle.frame.specs.State.{fresh, afterHeader, afterEvent, afterMessage, afterQuestion, firstQuestion, faultyAt, Bounded};
 
-// What has been read, in numbers: counts has the events of each station.
+// What has been read, in numbers: counts has the events of each station. panelled: the header says that reports carry a panel.
 pub struct State {
+    pub panelled: bool,
     pub stations: usize,
     pub events: usize,
     pub messages: usize,
@@ -22,6 +23,7 @@ impl State {
         ensures { λ r. ⌜ r ≡ fresh ⌝ }
     {
         State {
+            panelled: false,
             stations: 0,
             events: 0,
             messages: 0,
@@ -31,10 +33,11 @@ impl State {
     }
 
     // A header of n stations has been read.
-    pub(crate) fn with_header(self, n: usize) -> State
-        ensures { λ r. ⌜ r ≡ afterHeader self n ⌝ }
+    pub(crate) fn with_header(self, panelled: bool, n: usize) -> State
+        ensures { λ r. ⌜ r ≡ afterHeader self panelled n ⌝ }
     {
         State {
+            panelled: panelled,
             stations: n,
             events: 0,
             messages: 0,
@@ -52,6 +55,7 @@ impl State {
         let mut counts = self.counts;
         counts[j] = counts[j] + 1;
         State {
+            panelled: self.panelled,
             stations: self.stations,
             events: self.events + 1,
             messages: self.messages,
@@ -67,6 +71,7 @@ impl State {
     {
         let counts = self.counts;
         State {
+            panelled: self.panelled,
             stations: self.stations,
             events: self.events,
             messages: self.messages + 1,
@@ -82,6 +87,7 @@ impl State {
     {
         let counts = self.counts;
         State {
+            panelled: self.panelled,
             stations: self.stations,
             events: self.events,
             messages: self.messages,

@@ -6,8 +6,8 @@ use mathlib.Core.Bool.{Bool, true, false}
 use mathlib.Core.Option.{Option}
 use mathlib.Core.List.{[]}
 use Rattle.model.specs.Cut.{Cut, _⊑_, insideAny}
-use Rattle.model.specs.Computation.{Computation, Consistent, value}
-use Rattle.model.specs.Atom.{Atom, within, isTrue, askable, raiseTo, passes, raiseAtom}
+use Rattle.model.specs.Computation.{Computation, Consistent, report}
+use Rattle.model.specs.Atom.{Atom, seen, within, isTrue, askable, raiseTo, passes, raiseAtom}
 use Rattle.model.specs.Atom.Atom.{inRange, clear}
 use Rattle.model.specs.Structure.{build}
 use Rattle.lattice.proofs.Valid.{Valid}
@@ -36,8 +36,8 @@ module _ (K : Computation) (ok : Valid K) where
   -- An atom that cannot be worked out under its sign is given no cuts.
   pub literal-basis : (b : Bool) (a : Atom) → IsBasis K (build K (raiseAtom K b a) []) (λ c. (askable b a ≡ true) × (isTrue K a c ≡ b))
   unfolding raiseAtom isTrue askable
-  literal-basis b (inRange s lo hi) =
-      counted-basis s (λ k. passes b lo hi (value K s k)) _ (λ c q. (λ u. (refl, passes-iff b lo hi _ .0 (u .1)), λ u. (q, passes-iff b lo hi _ .1 (u .1))))
+  literal-basis b (inRange a s lo hi) =
+      counted-basis s (λ k. passes b lo hi (seen a (report K s k))) _ (λ c q. (λ u. (refl, passes-iff b lo hi _ .0 (u .1)), λ u. (q, passes-iff b lo hi _ .1 (u .1))))
   literal-basis true (clear i j) =
       plain-basis (Clear K ok i j (K .messages)) _ (clear-regular K ok i j (K .messages)) _ (clear-least K ok i j) (λ c q. (λ u. (refl, clear-iff K ok i j c .1 (u .1)), λ u. (q, clear-iff K ok i j c .0 (u .1))))
   literal-basis false (clear i j) =

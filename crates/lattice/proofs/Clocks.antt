@@ -11,7 +11,7 @@ use lib.Dec.{eqb}
 use borrow.Author.Tests.{eqb-true, eq-eqb, ne-eqb}
 use Rattle.model.specs.Lists.{every}
 use Rattle.model.specs.Cut.{Cut, _!_, _⊑_}
-use Rattle.model.specs.Computation.{Event, Message, Computation, stations, count, clock, known, counted, clockOk, messageOk}
+use Rattle.model.specs.Computation.{Report, Event, Message, Computation, stations, count, clock, known, counted, clockOk, messageOk}
 use Rattle.model.specs.Reading.{opened, extended, informed}
 use Rattle.lattice.proofs.Valid.{GoodClock, GoodMessage, Valid}
 use Rattle.lattice.proofs.Lists.{All, all-map, all-append}
@@ -55,11 +55,11 @@ module _ (K : Computation) (s : ℕ) (v : Cut) (sized : length v ≡ stations K)
       ]
 
 -- A header brings no clocks and no messages.
-pub opened-valid : (values : List ℕ) → Valid (opened values)
+pub opened-valid : (reports : List Report) → Valid (opened reports)
 unfolding opened
-opened-valid values = record { sizes = length-opened values ∙ sym (stations-opened values); clocks = λ j k h. absurd (omega (arith, count-opened values j)); messages = none }
+opened-valid reports = record { sizes = length-opened reports ∙ sym (stations-opened reports); clocks = λ j k h. absurd (omega (arith, count-opened reports j)); messages = none }
   where
-    none : All (GoodMessage (opened values)) (opened values .messages)
+    none : All (GoodMessage (opened reports)) (opened reports .messages)
     none = done
 
 -- One more event: the old clocks stay good, since counts only grow, and the new one is good, since it passed the test.

@@ -9,7 +9,7 @@ use mathlib.Core.List.{List, [], _∷_, _++_, map}
 use lib.ListN.{length, getD, set, length-append, length-set, length-map, List·getD-append, List·getD-eq-default}
 use lib.Seq.{getD-set-same, getD-set-other, getD-append-seam}
 use Rattle.model.specs.Lists.{sum, total}
-use Rattle.model.specs.Computation.{Event, Computation, stations, history, count, eventCount, noEvent, clock, value}
+use Rattle.model.specs.Computation.{Report, Event, Computation, stations, history, count, eventCount, noReport, noEvent, clock, report}
 use Rattle.model.specs.Reading.{opened, extended}
 
 -- ANY COMPUTATION
@@ -20,41 +20,41 @@ unfolding clock
 clock-none K j zero h = absurd (omega arith)
 clock-none K j (suc k) h = ap (λ (e : Event). e .clock) (List·getD-eq-default (history K j) noEvent (omega arith))
 
--- And its value as 0.
-pub value-none : (K : Computation) (j k : ℕ) → count K j < k → value K j k ≡ 0
-unfolding value
-value-none K j zero h = absurd (omega arith)
-value-none K j (suc k) h = ap (λ (e : Event). e .value) (List·getD-eq-default (history K j) noEvent (omega arith))
+-- And the report as none.
+pub report-none : (K : Computation) (j k : ℕ) → count K j < k → report K j k ≡ noReport
+unfolding report
+report-none K j zero h = absurd (omega arith)
+report-none K j (suc k) h = ap (λ (e : Event). e .report) (List·getD-eq-default (history K j) noEvent (omega arith))
 
 -- AFTER THE HEADER
 
-module _ (values : List ℕ) where
-  pub stations-opened : stations (opened values) ≡ length values
+module _ (reports : List Report) where
+  pub stations-opened : stations (opened reports) ≡ length reports
   unfolding opened
   stations-opened = refl
 
-  pub length-opened : length (opened values .events) ≡ length values
+  pub length-opened : length (opened reports .events) ≡ length reports
   unfolding opened
-  length-opened = length-map values (λ (v : ℕ). [])
+  length-opened = length-map reports (λ (x : Report). [])
 
-  pub count-opened : (j : ℕ) → count (opened values) j ≡ 0
+  pub count-opened : (j : ℕ) → count (opened reports) j ≡ 0
   unfolding opened
-  count-opened j = none values j
+  count-opened j = none reports j
     where
-      none : (l : List ℕ) (j : ℕ) → length (getD (map {B = List Event} (λ (v : ℕ). []) l) j []) ≡ 0
+      none : (l : List Report) (j : ℕ) → length (getD (map {B = List Event} (λ (x : Report). []) l) j []) ≡ 0
       none [] j = refl
       none (v ∷ l) zero = refl
       none (v ∷ l) (suc j) = none l j
 
-  pub value-opened : (j : ℕ) → value (opened values) j 0 ≡ getD values j 0
-  unfolding opened value
-  value-opened j = refl
+  pub report-opened : (j : ℕ) → report (opened reports) j 0 ≡ getD reports j noReport
+  unfolding opened report
+  report-opened j = refl
 
-  pub eventCount-opened : eventCount (opened values) ≡ 0
+  pub eventCount-opened : eventCount (opened reports) ≡ 0
   unfolding opened sum
-  eventCount-opened = none values
+  eventCount-opened = none reports
     where
-      none : (l : List ℕ) → total (map length (map {B = List Event} (λ (v : ℕ). []) l)) ≡ 0
+      none : (l : List Report) → total (map length (map {B = List Event} (λ (x : Report). []) l)) ≡ 0
       none [] = refl
       none (v ∷ l) = omega (arith, none l)
 
@@ -136,11 +136,11 @@ module _ (K : Computation) (s : ℕ) (e : Event) (there : s < length (K .events)
   unfolding clock
   clock-new = ap (λ (x : Event). x .clock) event-new
 
-  pub value-old : (j k : ℕ) → k ≤ count K j → value (extended K s e) j k ≡ value K j k
-  unfolding value extended
-  value-old j zero h = refl
-  value-old j (suc k) h = ap (λ (x : Event). x .value) (event-old j k h)
+  pub report-old : (j k : ℕ) → k ≤ count K j → report (extended K s e) j k ≡ report K j k
+  unfolding report extended
+  report-old j zero h = refl
+  report-old j (suc k) h = ap (λ (x : Event). x .report) (event-old j k h)
 
-  pub value-new : value (extended K s e) s (suc (count K s)) ≡ e .value
-  unfolding value
-  value-new = ap (λ (x : Event). x .value) event-new
+  pub report-new : report (extended K s e) s (suc (count K s)) ≡ e .report
+  unfolding report
+  report-new = ap (λ (x : Event). x .report) event-new

@@ -4,6 +4,7 @@ pub mod Valid
 pub mod Sums
 pub mod Cuts
 pub mod Consistency
+pub mod Reports
 pub mod Histories
 pub mod MessageRule
 pub mod Clocks

@@ -5,9 +5,10 @@ use native.Mathlib.Omega.{arith}
 use mathlib.Core.Bool.{Bool, true}
 use mathlib.Core.Option.{Option, none, some}
 use mathlib.Core.List.{List, []}
+use Rattle.model.specs.declared.Aspect.{Aspect}
 use Rattle.model.specs.Cut.{Cut, _!_, _⊑_, empty}
-use Rattle.model.specs.Computation.{Computation, Consistent, stations, count, clock, value}
-use Rattle.model.specs.Atom.{next, upTo, raiseTo, passes, raiseAtom}
+use Rattle.model.specs.Computation.{Computation, Consistent, stations, count, clock, report}
+use Rattle.model.specs.Atom.{seen, next, upTo, raiseTo, passes, raiseAtom}
 use Rattle.model.specs.Atom.Atom.{inRange}
 use Rattle.model.specs.Structure.{Structure, row, raise, build}
 use Rattle.lattice.specs.OfStation.{OfStation, countIn, ownRow, OfOwnRows}
@@ -68,13 +69,13 @@ module _ (K : Computation) (ok : Valid K) (s : ℕ) (p : ℕ → Bool) where
           rep = table-represents K ok P f fl bars l e
 
 module _ (K : Computation) (ok : Valid K) where
-  -- The structure of an atom.
-  pub literal-station : (b : Bool) (s lo hi : ℕ) → All (OfOwnRows K s) (build K (raiseAtom K b (inRange s lo hi)) [])
+  -- The structure of a range.
+  pub literal-station : (b : Bool) (a : Aspect) (s lo hi : ℕ) → All (OfOwnRows K s) (build K (raiseAtom K b (inRange a s lo hi)) [])
   unfolding raiseAtom
-  literal-station b s lo hi = build-station K ok s p (passes-regular K ok s p) (raiseTo K s p) (passes-least K ok s p) (λ c q. refl) []
+  literal-station b a s lo hi = build-station K ok s p (passes-regular K ok s p) (raiseTo K s p) (passes-least K ok s p) (λ c q. refl) []
     where
       p : ℕ → Bool
-      p k = passes b lo hi (value K s k)
+      p k = passes b lo hi (seen a (report K s k))
 
   -- The structure of all cuts, whatever the bars.
   pub all-station : (s : ℕ) (bars : List Cut) → All (OfOwnRows K s) (build K some bars)

@@ -1,4 +1,4 @@
--- When 01 is true, and when its negation is, in numbers.
+-- When a range, 01 or 08, is true, and when its negation is, in numbers.
 use mathlib.Core.Path.{_≡_}
 use mathlib.Core.Logic.{_↔_, _⊎_, inl, inr}
 use Prim.Native.Nat.{ℕ, suc, _≤_, _<_}
@@ -6,21 +6,22 @@ use native.Mathlib.Omega.{arith}
 use native.Mathlib.Decide.{decLe}
 use lib.Dec.{leb}
 use borrow.Author.Tests.{le-leb, lt-leb}
+use Rattle.model.specs.declared.Aspect.{Aspect}
 use Rattle.model.specs.Cut.{Cut, _!_}
-use Rattle.model.specs.Computation.{Computation, value}
-use Rattle.model.specs.Atom.{within, isTrue}
+use Rattle.model.specs.Computation.{Computation, report}
+use Rattle.model.specs.Atom.{seen, within, isTrue}
 use Rattle.model.specs.Atom.Atom.{inRange}
 use Rattle.model.specs.Formula.{Formula}
 use Rattle.model.specs.Formula.Formula.{atom, not}
 use Rattle.model.specs.Truth.{True}
 use Rattle.lattice.proofs.Tests.{or-iff, leb-iff, between-iff}
 
-module _ (K : Computation) (s lo hi : ℕ) (c : Cut) where
+module _ (K : Computation) (a : Aspect) (s lo hi : ℕ) (c : Cut) where
   abbrev v : ℕ
-  v = value K s (c ! s)
+  v = seen a (report K s (c ! s))
 
   abbrev range : Formula
-  range = atom (inRange s lo hi)
+  range = atom (inRange a s lo hi)
 
   -- From lo to hi.
   pub from-lo-to-hi : lo ≤ hi → True K range c ↔ ((lo ≤ v) × (v ≤ hi))

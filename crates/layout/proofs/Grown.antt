@@ -7,6 +7,7 @@ use native.Mathlib.Numerals.{add-one}
 use native.Mathlib.Nat.{add-zero, add-mul}
 use lib.ListN.{length, take, drop, getD, set, length-drop}
 use lib.Seq.{paste, take-paste, take-suc-set}
+use Rattle.model.specs.Limits.{storedReport}
 use Rattle.model.specs.Frames.{word}
 use Rattle.model.specs.Lists.{sum, total}
 use Rattle.table.specs.Table.{slot}
@@ -31,15 +32,15 @@ module _ (d₀ d : List ℕ) (at : ℕ) where
       let e : at + (i + 1) ≡ suc (at + i) = omega arith in
       rw (e, take-suc-set d (at + i) v h, p) (append-assoc (take at d₀) s (v ∷ []))
 
-  pub value-more : (t : List ℕ) (j k a v : ℕ) → a ≡ slot j k → v ≡ word (drop a t) → at + k < length d → take (at + k) d ≡ take at d₀ ++ valuesOf t j k
-      → take (at + (k + 1)) (set d (at + k) v) ≡ take at d₀ ++ valuesOf t j (k + 1)
+  pub value-more : (b : ℕ) (t : List ℕ) (j k a v : ℕ) → a ≡ slot j k → v ≡ word (drop (a + b) t) → at + k < length d → take (at + k) d ≡ take at d₀ ++ valuesOf b t j k
+      → take (at + (k + 1)) (set d (at + k) v) ≡ take at d₀ ++ valuesOf b t j (k + 1)
   unfolding valuesOf inTurn
-  value-more t j k a v e w h p =
-      let x : valuesOf t j (k + 1) ≡ valuesOf t j k ++ v ∷ [] = rw (add-one k, ← e, ← w) in
-      rw x (cell-more (valuesOf t j k) k v h p)
+  value-more b t j k a v e w h p =
+      let x : valuesOf b t j (k + 1) ≡ valuesOf b t j k ++ v ∷ [] = rw (add-one k, ← e, ← w) in
+      rw x (cell-more (valuesOf b t j k) k v h p)
 
   pub clock-more : (t d′ : List ℕ) (n j k a : ℕ) → a ≡ slot j (k + 1) → take (at + k * n) d ≡ take at d₀ ++ clocksIn t n j k
-      → take (at + k * n + n) d′ ≡ take (at + k * n) d ++ take n (drop (a + 2) t) → take (at + (k + 1) * n) d′ ≡ take at d₀ ++ clocksIn t n j (k + 1)
+      → take (at + k * n + n) d′ ≡ take (at + k * n) d ++ take n (drop (a + storedReport) t) → take (at + (k + 1) * n) d′ ≡ take at d₀ ++ clocksIn t n j (k + 1)
   unfolding clocksIn clockIn inTurn
   clock-more t d′ n j k a e p q =
       let w : at + (k + 1) * n ≡ at + k * n + n = omega (arith, add-mul k 1 n) in
@@ -48,13 +49,13 @@ module _ (d₀ d : List ℕ) (at : ℕ) where
 
 -- ALL STATIONS: station j of n has m events, and b are those of the stations before it
 module _ (t counts d d′ : List ℕ) (n j m b : ℕ) (h : j < n) (has : m ≡ getD counts j 0) (before : b ≡ total (take j (take n counts))) where
-  pub values-more : take (total (take j (take n counts)) + j) d ≡ valuesIn t counts j → take (b + j + (m + 1)) d′ ≡ take (b + j) d ++ valuesOf t j (m + 1)
-      → take (total (take (j + 1) (take n counts)) + (j + 1)) d′ ≡ valuesIn t counts (j + 1)
+  pub values-more : (i : ℕ) → take (total (take j (take n counts)) + j) d ≡ valuesIn i t counts j → take (b + j + (m + 1)) d′ ≡ take (b + j) d ++ valuesOf i t j (m + 1)
+      → take (total (take (j + 1) (take n counts)) + (j + 1)) d′ ≡ valuesIn i t counts (j + 1)
   unfolding valuesIn inTurn
-  values-more p q =
+  values-more i p q =
       let w : total (take (j + 1) (take n counts)) + (j + 1) ≡ b + j + (m + 1) = omega (arith, sum-next counts n j h) in
-      let e : valuesIn t counts (j + 1) ≡ valuesIn t counts j ++ valuesOf t j (m + 1) = rw (add-one j, add-one m, has) in
-      rw (w, e) (part-more d d′ (valuesIn t counts j) (valuesOf t j (m + 1)) (b + j) (b + j + (m + 1)) (rw before p) q)
+      let e : valuesIn i t counts (j + 1) ≡ valuesIn i t counts j ++ valuesOf i t j (m + 1) = rw (add-one j, add-one m, has) in
+      rw (w, e) (part-more d d′ (valuesIn i t counts j) (valuesOf i t j (m + 1)) (b + j) (b + j + (m + 1)) (rw before p) q)
 
   pub starts-more : take ((total (take j (take n counts)) + 1) * n) d ≡ startsIn t n counts j → take ((b + 1) * n + m * n) d′ ≡ take ((b + 1) * n) d ++ clocksIn t n j m
       → take ((total (take (j + 1) (take n counts)) + 1) * n) d′ ≡ startsIn t n counts (j + 1)
@@ -65,8 +66,8 @@ module _ (t counts d d′ : List ℕ) (n j m b : ℕ) (h : j < n) (has : m ≡ g
       let e : startsIn t n counts (j + 1) ≡ startsIn t n counts j ++ clocksIn t n j m = rw (add-one j, has) (sym (append-assoc (clockIn t n 0 0) (inTurn (λ i. clocksIn t n i (getD counts i 0)) j) (clocksIn t n j (getD counts j 0)))) in
       rw (w, e) (part-more d d′ (startsIn t n counts j) (clocksIn t n j m) ((b + 1) * n) ((b + 1) * n + m * n) (rw before p) q)
 
-pub starts-first : (t counts d d′ : List ℕ) (n : ℕ) → take (0 + n) d′ ≡ take 0 d ++ take n (drop 2 t) → take ((total (take 0 (take n counts)) + 1) * n) d′ ≡ startsIn t n counts 0
+pub starts-first : (t counts d d′ : List ℕ) (n : ℕ) → take (0 + n) d′ ≡ take 0 d ++ take n (drop storedReport t) → take ((total (take 0 (take n counts)) + 1) * n) d′ ≡ startsIn t n counts 0
 unfolding startsIn clockIn inTurn sum
 starts-first t counts d d′ n q =
     let w : (0 + 1) * n ≡ 0 + n = omega arith in
-    rw (w, append-nil (take n (drop 2 t))) q
+    rw (w, append-nil (take n (drop storedReport t))) q

@@ -1,23 +1,29 @@
 -- What is laid out is what the basis wants: offsets, starts and values of the computation that the store holds. Assumes nothing.
 use mathlib.Core.Path.{_≡_, refl, sym, ap, _∙_}
+use mathlib.Core.Bool.{true}
 use mathlib.Core.List.{List, [], _∷_, _++_, map, append-assoc}
 use mathlib.Core.Option.{some}
-use Prim.Native.Nat.{ℕ, suc, _+_, _*_, _≤_, _<_}
+use Prim.Native.Nat.{ℕ, suc, _+_, _-_, _*_, _≤_, _<_}
 use native.Mathlib.Omega.{arith}
 use native.Mathlib.Numerals.{add-one}
+use native.Mathlib.Nat.{add-zero}
 use lib.ListN.{length, take, drop, getD, length-drop, length-map, length-replicate, take-append-drop, List·getD-map}
-use lib.Seq.{ext-getD, getD-take, length-take-le, take-all, take-length, take-at, drop-at}
+use lib.Seq.{ext-getD, getD-take, getD-drop, drop-drop, length-take-le, take-all, take-length, take-at, drop-at}
 use Rattle.model.specs.Frames.{word}
 use Rattle.model.specs.Lists.{sum, total}
 use Rattle.model.specs.Cut.{empty}
-use Rattle.model.specs.Computation.{Computation, Event, noEvent, stations, history, count, full, clock, value}
+use Rattle.model.specs.Computation.{Computation, Event, noEvent, stations, history, count, full, clock, report}
+use Rattle.model.specs.Atom.{seen}
+use Rattle.model.specs.Reading.{reportOf}
 use Rattle.structure.specs.Layout.{stationsAt}
 use Rattle.structure.specs.declared.Shape.{Shape}
 use Rattle.structure.specs.Shaped.{Shaped}
-use Rattle.structure.specs.Laid.{messageAt, Laid, Facts}
-use Rattle.model.specs.Limits.{limits, valuesSize, startsSize, factsSize, storeSize}
+use Rattle.structure.specs.Laid.{messageAt, Laid, aspectAt, Facts}
+use Rattle.model.specs.declared.Aspect.{Aspect}
+use Rattle.model.specs.declared.Aspect.the-variants.{Value, Panel}
+use Rattle.model.specs.Limits.{limits, storedReport, reportsSize, valuesSize, startsSize, factsSize, storeSize}
 use Rattle.table.specs.Table.{slot, messageSlot}
-use Rattle.layout.specs.Rows.{inTurn, clockIn, clocksIn, startsIn, valuesOf, valuesIn}
+use Rattle.layout.specs.Rows.{inTurn, clockIn, clocksIn, startsIn, byteOf, valuesOf, valuesIn}
 use Rattle.layout.specs.Messages.{Filled}
 use Rattle.layout.specs.StoredValid.{StoredValid}
 use Rattle.lattice.proofs.Lists.{some-below}
@@ -26,6 +32,16 @@ use Rattle.layout.proofs.Room.{rows-fit}
 use Rattle.layout.proofs.Turns.{spread, turns, turn-at, turn-total}
 use Rattle.layout.proofs.Cells.{Rows, clocks, stations-are}
 use Rattle.layout.proofs.Filling.{front-same, filed}
+
+in-report : (a : Aspect) (i : ℕ) (t : List ℕ) → word (drop (i + byteOf a) t) ≡ seen a (reportOf true (drop i t))
+unfolding seen reportOf
+in-report Value i t = ap (λ (x : ℕ). word (drop x t)) (add-zero i)
+in-report Panel i t = ap word (sym (drop-drop 2 i t))
+
+-- Values and panels are before the messages.
+aspect-room : (a : Aspect) → aspectAt a + reportsSize ≤ valuesSize
+aspect-room Value = omega arith
+aspect-room Panel = omega arith
 
 -- The numbers in order.
 pub shaped-of : (n e : ℕ) (counts offs : List ℕ) → 0 < n → n ≤ limits .stations → total (take n counts) ≤ limits .events → total (take n counts) ≡ e
@@ -55,8 +71,8 @@ module _ {K : Computation} {n m : ℕ} {counts t : List ℕ} (g : StoredValid K 
     clock-long : (j k : ℕ) → j < n → k ≤ count K j → length (clock K j k) ≡ n
     unfolding clockIn
     clock-long j k h b =
-        let f : n ≤ length (drop (slot j k + 2) t) = simp length-drop (omega (arith, count-few j h)) in
-        ap length (sym (clock-at j k h b)) ∙ length-take-le n (drop (slot j k + 2) t) f
+        let f : n ≤ length (drop (slot j k + storedReport) t) = simp length-drop (omega (arith, count-few j h)) in
+        ap length (sym (clock-at j k h b)) ∙ length-take-le n (drop (slot j k + storedReport) t) f
 
     good-rows : (j : ℕ) → j < n → 0 < n → Rows n (history K j)
     unfolding clock
@@ -98,33 +114,35 @@ module _ {K : Computation} {n m : ℕ} {counts t : List ℕ} (g : StoredValid K 
           let d : drop n starts ≡ spread clocks (K .events) ++ behind = ap (drop n) whole ∙ drop-at (empty n) (spread clocks (K .events) ++ behind) n empty-long in
           rw d (stations-are n (K .events) behind (λ j b. good-rows j (omega arith) z))
 
-    value-at : (j k : ℕ) → j < n → k ≤ count K j → word (drop (slot j k) t) ≡ value K j k
-    value-at j k h b = g .stored .table .values j k (rw (g .stored .size) h) b
+    value-at : (a : Aspect) (j k : ℕ) → j < n → k ≤ count K j → word (drop (slot j k + byteOf a) t) ≡ seen a (report K j k)
+    value-at a j k h b = in-report a (slot j k) t ∙ ap (seen a) (g .stored .table .reports j k (rw (g .stored .size) h) b)
 
-    values-long : (j m : ℕ) → length (valuesOf t j m) ≡ m
+    values-long : (i j m : ℕ) → length (valuesOf i t j m) ≡ m
     unfolding valuesOf
-    values-long j m = turn-total (λ k. word (drop (slot j k) t) ∷ []) (λ k. k) refl m (λ k h. omega arith) m (omega arith)
+    values-long i j m = turn-total (λ k. word (drop (slot j k + i) t) ∷ []) (λ k. k) refl m (λ k h. omega arith) m (omega arith)
 
-    station-value : (j k m : ℕ) → k < m → getD (valuesOf t j m) k 0 ≡ word (drop (slot j k) t)
+    station-value : (i j k m : ℕ) → k < m → getD (valuesOf i t j m) k 0 ≡ word (drop (slot j k + i) t)
     unfolding valuesOf
-    station-value j k m h = ap (λ (i : ℕ). getD (valuesOf t j m) i 0) (omega (arith, values-long j k)) ∙ turn-at (λ i. word (drop (slot j i) t) ∷ []) k m 0 h (omega arith)
+    station-value i j k m h =
+        let e : k ≡ length (valuesOf i t j k) + 0 = omega (arith, values-long i j k) in
+        ap (λ (x : ℕ). getD (valuesOf i t j m) x 0) e ∙ turn-at (λ x. word (drop (slot j x + i) t) ∷ []) k m 0 h (omega arith)
 
-    before-length : (j : ℕ) → j ≤ n → length (valuesIn t counts j) ≡ total (take j (take n counts)) + j
+    before-length : (i j : ℕ) → j ≤ n → length (valuesIn i t counts j) ≡ total (take j (take n counts)) + j
     unfolding valuesIn sum
-    before-length = turn-total (λ i. valuesOf t i (suc (getD counts i 0))) (λ j. total (take j (take n counts)) + j) refl n
-        (λ j h. rw (← add-one j) (omega (arith, sum-next counts n j h, values-long j (suc (getD counts j 0)))))
+    before-length i = turn-total (λ x. valuesOf i t x (suc (getD counts x 0))) (λ j. total (take j (take n counts)) + j) refl n
+        (λ j h. rw (← add-one j) (omega (arith, sum-next counts n j h, values-long i j (suc (getD counts j 0)))))
 
-    pub values-laid : (values : List ℕ) → take (total (take n counts) + n) values ≡ valuesIn t counts n
-        → (j k : ℕ) → j < n → k ≤ count K j → getD values (total (take j (take n counts)) + j + k) 0 ≡ value K j k
+    pub values-laid : (a : Aspect) (values : List ℕ) → take (total (take n counts) + n) values ≡ valuesIn (byteOf a) t counts n
+        → (j k : ℕ) → j < n → k ≤ count K j → getD values (total (take j (take n counts)) + j + k) 0 ≡ seen a (report K j k)
     unfolding valuesIn
-    values-laid values p j k h b =
+    values-laid a values p j k h b =
         let q : k < suc (getD counts j 0) = omega (arith, g .stored .each j) in
         let i : total (take j (take n counts)) + j + k < total (take n counts) + n = omega (arith, sum-few counts n j h) in
-        let o : total (take j (take n counts)) + j + k ≡ length (valuesIn t counts j) + k = omega (arith, before-length j (omega arith)) in
+        let o : total (take j (take n counts)) + j + k ≡ length (valuesIn (byteOf a) t counts j) + k = omega (arith, before-length (byteOf a) j (omega arith)) in
         sym (getD-take (total (take n counts) + n) values (total (take j (take n counts)) + j + k) 0 i)
-        ∙ ap (λ (x : List ℕ). getD x (total (take j (take n counts)) + j + k) 0) p ∙ ap (λ (x : ℕ). getD (valuesIn t counts n) x 0) o
-        ∙ turn-at (λ x. valuesOf t x (suc (getD counts x 0))) j n k h (omega (arith, values-long j (suc (getD counts j 0))))
-        ∙ station-value j k (suc (getD counts j 0)) q ∙ value-at j k h b
+        ∙ ap (λ (x : List ℕ). getD x (total (take j (take n counts)) + j + k) 0) p ∙ ap (λ (x : ℕ). getD (valuesIn (byteOf a) t counts n) x 0) o
+        ∙ turn-at (λ x. valuesOf (byteOf a) t x (suc (getD counts x 0))) j n k h (omega (arith, values-long (byteOf a) j (suc (getD counts j 0))))
+        ∙ station-value (byteOf a) j k (suc (getD counts j 0)) q ∙ value-at a j k h b
 
     -- The shape with e events and the offsets offs.
     module _ (e : ℕ) (offs : List ℕ) (z : 0 < n) (t-is : total (take n counts) ≡ e) (o : (j : ℕ) → j < n → getD offs j 0 ≡ total (take j (take n counts))) where
@@ -145,9 +163,9 @@ module _ {K : Computation} {n m : ℕ} {counts t : List ℕ} (g : StoredValid K 
             starts-rows = rows-laid starts z q;
           }
 
-      pub faced : (d₀ d : List ℕ) → factsSize ≤ length d₀ → length d ≡ length d₀ → m ≤ limits .messages → take (e + n) d₀ ≡ valuesIn t counts n → (getD d valuesSize 0 ≡ m) × Filled t m d₀ d → Facts K x d
+      pub faced : (d₀ d : List ℕ) → factsSize ≤ length d₀ → length d ≡ length d₀ → m ≤ limits .messages → ((a : Aspect) → take (e + n) (drop (aspectAt a) d₀) ≡ valuesIn (byteOf a) t counts n) → (getD d valuesSize 0 ≡ m) × Filled t m d₀ d → Facts K x d
       faced d₀ d b l few-m p f = record {
-        values-are = λ j k h o. rw (← counts-full) (values-laid d (rw t-is (sym same ∙ p)) j k h o);
+        shown = λ a j k h o. sym (getD-drop (aspectAt a) d _ 0) ∙ rw (← counts-full) (values-laid a (drop (aspectAt a) d) (rw t-is (sym (same a) ∙ p a)) j k h o);
         filed = record {
           fit = omega arith;
           few = rw (g .messages) few-m;
@@ -156,5 +174,8 @@ module _ {K : Computation} {n m : ℕ} {counts t : List ℕ} (g : StoredValid K 
         };
       }
         where
-          same : take (e + n) d₀ ≡ take (e + n) d
-          same = front-same d₀ d (e + n) (omega arith) (sym l) (λ i h. sym (f .1 .before i (omega arith)))
+          same : (a : Aspect) → take (e + n) (drop (aspectAt a) d₀) ≡ take (e + n) (drop (aspectAt a) d)
+          same a = front-same (drop (aspectAt a) d₀) (drop (aspectAt a) d) (e + n)
+              (simp length-drop (omega (arith, aspect-room a)))
+              (simp length-drop (ap (λ (x : ℕ). x - aspectAt a) (sym l)))
+              (λ i h. getD-drop (aspectAt a) d₀ i 0 ∙ sym (f .1 .before (aspectAt a + i) (omega (arith, aspect-room a))) ∙ sym (getD-drop (aspectAt a) d i 0))

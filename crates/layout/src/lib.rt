@@ -1,12 +1,12 @@
 // The store of a loaded log laid out for the basis, and the test whether a cut is consistent.
 pub mod consistent;
 mod messages;
+mod reports;
 mod starts;
-mod values;
 
 use crate::messages::lay_messages;
+use crate::reports::lay_reports;
 use crate::starts::lay_starts;
-use crate::values::lay_values;
 use offsets::offsets;
 use structure::Shape;
 ghost use mathlib.Core.Path.{_≡_};
@@ -40,7 +40,7 @@ pub fn lay(
         offs: offs,
     };
     lay_starts(store, x, starts);
-    lay_values(store, x, facts);
+    lay_reports(store, x, facts);
     lay_messages(store, k, facts);
     x
 }

@@ -19,7 +19,7 @@ fn station_clocks(store: &[u8], n: usize, j: usize, m: usize, starts: &mut [u8],
     let mut k = 0;
     while k < m {
         let from = slot(j, k + 1);
-        copy(starts, at + k * n, store, from + 2, n);
+        copy(starts, at + k * n, store, from + model::Log::REPORT, n);
         k += 1;
     }
 }
@@ -33,7 +33,7 @@ pub(crate) fn lay_starts(store: &[u8], x: Shape, starts: &mut [u8])
     let n = x.n;
     let counts = x.counts;
     let offs = x.offs;
-    copy(starts, 0, store, 2, n);
+    copy(starts, 0, store, model::Log::REPORT, n);
     let mut j = 0;
     while j < n {
         let m = wide(counts[j]);

@@ -212,7 +212,8 @@ bounded-fresh = record { few-stations = omega arith; few-events = omega arith; f
 holds-nothing : (t : List ℕ) → Represents nothing fresh t
 unfolding sum
 holds-nothing t = record {
-  stored = record { size = refl; each = zero-at; table = record { values = λ j k l m. absurd (omega arith); clocks = λ j k l m. absurd (omega arith) } };
+  panelled = refl;
+  stored = record { size = refl; each = zero-at; table = record { reports = λ j k l m. absurd (omega arith); clocks = λ j k l m. absurd (omega arith) } };
   posted = record { at = λ q m e. let z : _≡_ {A = ℕ} 0 1 = cc in absurd (omega arith) };
   sizes = refl;
   events = refl;

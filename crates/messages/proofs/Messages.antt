@@ -11,20 +11,19 @@ use borrow.Author.Tests.{eq-eqb, ne-eqb, lt-ltb, ltb-true}
 use lib.ListN.{length, take, drop, getD, getElem?, length-drop}
 use lib.Seq.{take-all}
 use Rattle.model.specs.declared.Limits.{Limits}
-use Rattle.model.specs.Limits.{limits, slotSize, messageSize, storeSize}
-use Rattle.model.specs.Frames.{word}
-use Rattle.model.specs.Computation.{Computation, Message, stations, count, messageOk, clock, value}
-use Rattle.model.specs.Reading.{Reading, begun, unasked, check, messageOf, informed, withMessage, admit, admitMessage, go, fault}
+use Rattle.model.specs.Limits.{limits, storedReport, slotSize, messageSize, storeSize}
+use Rattle.model.specs.Computation.{Computation, Message, stations, count, messageOk, clock, report}
+use Rattle.model.specs.Reading.{Reading, reportOf, begun, unasked, check, messageOf, informed, withMessage, admit, admitMessage, go, fault}
 use Rattle.lattice.proofs.Tests.{and-true}
 use Rattle.lattice.proofs.Lists.{some-below}
 use Rattle.lattice.proofs.Clocks.{clock-informed}
 use Rattle.codec.specs.Limits.{NoLarger}
 use Rattle.codec.proofs.Snoc.{getElem?-snoc}
-use Rattle.codec.proofs.Messages.{messages-informed, message-more, value-informed}
+use Rattle.codec.proofs.Messages.{messages-informed, message-more, report-informed}
 use Rattle.cells.specs.Put.{putOf}
 use Rattle.table.specs.Table.{slot, messageSlot, messageBytes, Stored, Posted}
 use Rattle.table.proofs.Parts.{part-same, part-other}
-use Rattle.table.proofs.Slots.{word-take, value-at, clock-at}
+use Rattle.table.proofs.Slots.{same-report, same-clock}
 use Rattle.frame.specs.declared.State.{State}
 use Rattle.frame.specs.declared.Step.the-variants.{Next}
 use Rattle.frame.specs.State.{afterMessage, Bounded, Represents, Goes, Admits}
@@ -108,17 +107,15 @@ module _ {K : Computation} {n : ℕ} {counts t : List ℕ} (g : Stored K n count
   stored-still = record {
     size = g .size;
     each = g .each;
-    table = record { values = λ j k l h. at-value j k (rw (g .size) at l) h; clocks = λ j k l h. at-clock j k (rw (g .size) at l) h };
+    table = record { reports = λ j k l h. at-report j k (rw (g .size) at l) h; clocks = λ j k l h. at-clock j k (rw (g .size) at l) h };
   } where
-    at-value : (j k : ℕ) → j < n → k ≤ count K j → word (drop (slot j k) after) ≡ value (informed K (messageOf bytes)) j k
-    at-value j k l h =
-        value-at (limits .stations) (slot j k) after _ (old-slot j k l h) ∙ word-take (limits .stations) (drop (slot j k) t) ∙ g .table .values j k (rw (g .size) l) h
-        ∙ sym (value-informed K (messageOf bytes) j k)
+    at-report : (j k : ℕ) → j < n → k ≤ count K j → reportOf true (drop (slot j k) after) ≡ report (informed K (messageOf bytes)) j k
+    at-report j k l h =
+        same-report (slot j k) t after (old-slot j k l h) ∙ g .table .reports j k (rw (g .size) l) h ∙ sym (report-informed K (messageOf bytes) j k)
 
-    at-clock : (j k : ℕ) → j < n → k ≤ count K j → take (stations K) (drop (slot j k + 2) after) ≡ clock (informed K (messageOf bytes)) j k
+    at-clock : (j k : ℕ) → j < n → k ≤ count K j → take (stations K) (drop (slot j k + storedReport) after) ≡ clock (informed K (messageOf bytes)) j k
     at-clock j k l h =
-        clock-at (limits .stations) (slot j k) after _ (old-slot j k l h) (stations K) (rw (g .size) few)
-        ∙ sym (clock-at (limits .stations) (slot j k) t (take slotSize (drop (slot j k) t)) refl (stations K) (rw (g .size) few))
+        same-clock (slot j k) t after (old-slot j k l h) (stations K) (rw (g .size) few)
         ∙ g .table .clocks j k (rw (g .size) l) h ∙ sym (clock-informed K (messageOf bytes) j k)
 
   pub posted-more : Posted (informed K (messageOf bytes)) (putOf t (messageSlot q) bytes)
@@ -151,6 +148,7 @@ module _ {m : Limits} (up : NoLarger m limits) {s : State} (b : Bounded m s) (p 
         step = message-right m g p l ok;
         frames = ap (λ (x : List ℕ). r .frames ++ (x ∷ [])) (kind-front f 0x25 (g .some-bytes) (g .kind));
         holds = rw (e, u) (record {
+          panelled = h .panelled;
           stored = stored-still (h .stored) (h .posted) n low long (s .messages) (h .messages) w (drop 1 f) v;
           posted = posted-more (h .stored) (h .posted) n low long (s .messages) (h .messages) w (drop 1 f) v;
           sizes = h .sizes;

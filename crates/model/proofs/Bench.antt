@@ -8,17 +8,18 @@ use mathlib.Core.List.{List, [], _∷_, _++_}
 use mathlib.Core.Bool.{true, false}
 use mathlib.Core.Option.{some}
 use lib.ListN.{drop, replicate}
+use Rattle.model.specs.declared.Aspect.the-variants.{Value, Panel}
 use Rattle.model.specs.Limits.{limits, printLimits, workspaceSize, barspaceSize, lineSize}
 use Rattle.model.specs.Lists.{sum, between, every}
 use Rattle.model.specs.Bytes.{push, linesOf, digit, byte, bytes, carried, items, hexDigit, hex, checkByte, line}
 use Rattle.model.specs.Looks.{own, wellFormed}
-use Rattle.model.specs.Frames.{word, words, logOf, listOf, before, entry, split, framesIn, framesOf}
-use Rattle.model.specs.Atom.{atomBytes, operands, atomOf, soundAtom, within, sentBy, onWay, noMessage, isTrue, askable, next, upTo, raiseTo, passes, raiseAtom}
+use Rattle.model.specs.Frames.{word, logOf, listOf, before, entry, split, framesIn, framesOf}
+use Rattle.model.specs.Atom.{rangeToken, atomBytes, operands, rangeOf, atomOf, soundAtom, seen, within, sentBy, onWay, noMessage, isTrue, askable, next, upTo, raiseTo, passes, raiseAtom}
 use Rattle.model.specs.Atom.Atom.{inRange, clear}
 use Rattle.model.specs.Formula.{Formula, prefix, ahead, one, two, sign, token, spelt, formulasIn, single, formulaOf, sound, weigh}
 use Rattle.model.specs.Formula.Formula.{atom, not, and, or, possibly, always}
 use Rattle.model.specs.Cut.{Cut, inside, insideAny, join}
-use Rattle.model.specs.Computation.{Computation, clock, value, known, isConsistent, counted, clockOk, messageOk}
+use Rattle.model.specs.Computation.{Computation, Event, noReport, noEvent, clock, report, known, isConsistent, counted, clockOk, messageOk}
 use Rattle.model.specs.Rules.{asTrue, asFalse, workable}
 use Rattle.model.specs.Size.{width, bars, held, slim, narrow, fits}
 use Rattle.model.specs.Forecast.{mostBars, ceiling, forecast}
@@ -26,7 +27,7 @@ use Rattle.model.specs.Structure.{row, joined, raiseBy, raise, reaches, 
 use Rattle.model.specs.Basis.{thenRight, round, onward, after, run, start, intersect, each, pairs, below, lowered, barred, basis}
 use Rattle.model.specs.Rounds.{roundsOfPair, roundsOfPairs, rounds}
 use Rattle.model.specs.Answer.{notInside, add, tops, precedes, insert, sort, trueAt, answer, inRow, fourBytes, answerLine, refusalLine}
-use Rattle.model.specs.Reading.{Reading, begun, fault, check, headerForm, opened, admitHeader, eventForm, extended, unasked, unsent, admitEvent, informed, admitMessage, asked, admitQuestion, admit, finish, proceed, readItems, readLog, readFrames, readList}
+use Rattle.model.specs.Reading.{Reading, begun, fault, check, reportSize, reportOf, reportsOf, headerKind, headerForm, opened, admitHeader, eventForm, extended, unasked, unsent, admitEvent, informed, admitMessage, asked, admitQuestion, admit, finish, proceed, readItems, readLog, readFrames, readList}
 use Rattle.model.specs.Reply.{Reply, gives, refuses}
 use Rattle.model.specs.Promise.{Asked}
 use Rattle.model.specs.Operations.{readEffect, readOp, posing, openingOf, opening, cramped, forecastReplyTo, forecastOp, lineEffect, answerEffect, answerOp, holdsReplyTo, holdsOp, writeEffect, writeOp, answerLines, printedOf, printed}
@@ -38,7 +39,11 @@ ascii (text._∷_ c s) = code c ∷ ascii s
 
 -- 01 as a formula.
 pub range : ℕ → ℕ → ℕ → Formula
-range s lo hi = atom (inRange s lo hi)
+range s lo hi = atom (inRange Value s lo hi)
+
+-- 08 as a formula.
+pub panel : ℕ → ℕ → ℕ → Formula
+panel s lo hi = atom (inRange Panel s lo hi)
 
 -- The bench log up to its question.
 pub bench : List ℕ
@@ -51,13 +56,24 @@ Q = and (range 0 5 5) (range 1 1 1)
 pub asking : Formula → List ℕ
 asking f = bench ++ line (0x30 ∷ prefix f)
 
--- Its computation.
+-- The bench log with panels: station 0 goes from panel 7 to 9, station 1 from 8 to 9 with its second event.
+pub panelled : List ℕ
+panelled = ascii "11020000000700000008DE\n2000000500090100D1\n2001000100080001D5\n2001000200090102D1\n"
+
+pub asking-panels : Formula → List ℕ
+asking-panels f = panelled ++ line (0x30 ∷ prefix f)
+
+-- An event with a value, with no panel, and its clock.
+pub event : ℕ → Cut → Event
+event v c = record { report = record { value = v; panel = 0 }; clock = c }
+
+-- The computation of the bench log.
 pub benched : Computation
 benched = record {
-  initial = 0 ∷ 0 ∷ [];
+  initial = noReport ∷ noReport ∷ [];
   events =
-      (record { value = 5; clock = 1 ∷ 0 ∷ [] } ∷ [])
-      ∷ (record { value = 1; clock = 0 ∷ 1 ∷ [] } ∷ record { value = 2; clock = 1 ∷ 2 ∷ [] } ∷ [])
+      (event 5 (1 ∷ 0 ∷ []) ∷ [])
+      ∷ (event 1 (0 ∷ 1 ∷ []) ∷ event 2 (1 ∷ 2 ∷ []) ∷ [])
       ∷ [];
   messages = [];
 }
@@ -75,11 +91,11 @@ three-ways = or (range 0 5 5) two-ways
 
 -- What has been read after k events of one station.
 pub after-events : ℕ → Reading
-after-events k = record { computation = record { initial = 0 ∷ []; events = replicate k (record { value = 0; clock = [] }) ∷ []; messages = [] }; questions = []; frames = [] }
+after-events k = record { panelled = false; computation = record { initial = noReport ∷ []; events = replicate k noEvent ∷ []; messages = [] }; questions = []; frames = [] }
 
 -- And after k messages.
 pub after-messages : ℕ → Reading
-after-messages k = record { computation = record { initial = 0 ∷ []; events = [] ∷ []; messages = replicate k (record { sender = 0; sent = 0; receiver = 0; received = 0 }) }; questions = []; frames = [] }
+after-messages k = record { panelled = false; computation = record { initial = noReport ∷ []; events = [] ∷ []; messages = replicate k (record { sender = 0; sent = 0; receiver = 0; received = 0 }) }; questions = []; frames = [] }
 
 -- A message from station 0, sent at its event 1, to station 1, received at its event k; never, where k is 0.
 pub message : ℕ → List ℕ
@@ -96,17 +112,17 @@ none-between i j = atom (clear i j)
 -- Two messages from station 0 to station 1: the event that receives the first brings in the sending of the second.
 pub interleaved : Computation
 interleaved = record {
-  initial = 0 ∷ 0 ∷ [];
+  initial = noReport ∷ noReport ∷ [];
   events =
-      (record { value = 0; clock = 1 ∷ 0 ∷ [] } ∷ record { value = 0; clock = 2 ∷ 0 ∷ [] } ∷ [])
-      ∷ (record { value = 0; clock = 2 ∷ 1 ∷ [] } ∷ record { value = 0; clock = 2 ∷ 2 ∷ [] } ∷ [])
+      (event 0 (1 ∷ 0 ∷ []) ∷ event 0 (2 ∷ 0 ∷ []) ∷ [])
+      ∷ (event 0 (2 ∷ 1 ∷ []) ∷ event 0 (2 ∷ 2 ∷ []) ∷ [])
       ∷ [];
   messages = record { sender = 0; sent = 1; receiver = 1; received = 1 } ∷ record { sender = 0; sent = 2; receiver = 1; received = 2 } ∷ [];
 }
 
 -- All that is computed with: to unfold this is to unfold what its line names.
 definitions : Unit {0}
-unfolding ascii range bench Q asking holdsAt two-ways three-ways after-events after-messages message sending none-between interleaved sum between every push linesOf digit byte bytes carried items own wellFormed hexDigit hex checkByte line word words logOf listOf before entry split framesIn framesOf atomBytes operands atomOf soundAtom within sentBy onWay noMessage isTrue askable next upTo raiseTo passes raiseAtom prefix ahead one two sign token spelt formulasIn single formulaOf sound weigh inside insideAny join clock value known isConsistent counted clockOk messageOk asTrue asFalse workable width bars held slim narrow fits row joined raiseBy raise reaches inSet belongs belongsAny joinRow joinRows greatest keep buildOn build thenRight round onward after run start intersect each pairs below lowered barred basis roundsOfPair roundsOfPairs rounds notInside add tops precedes insert sort trueAt answer inRow fourBytes answerLine refusalLine begun check headerForm opened admitHeader eventForm extended unasked unsent admitEvent informed admitMessage asked admitQuestion admit finish proceed readItems readLog readFrames readList readEffect readOp posing openingOf opening cramped forecastReplyTo forecastOp lineEffect answerEffect answerOp holdsReplyTo holdsOp writeEffect writeOp answerLines printedOf printed mostBars ceiling forecast
+unfolding ascii range panel bench Q asking panelled asking-panels event holdsAt two-ways three-ways after-events after-messages message sending none-between interleaved sum between every push linesOf digit byte bytes carried items own wellFormed hexDigit hex checkByte line word logOf listOf before entry split framesIn framesOf rangeToken atomBytes operands rangeOf atomOf soundAtom seen within sentBy onWay noMessage isTrue askable next upTo raiseTo passes raiseAtom prefix ahead one two sign token spelt formulasIn single formulaOf sound weigh inside insideAny join clock report known isConsistent counted clockOk messageOk asTrue asFalse workable width bars held slim narrow fits row joined raiseBy raise reaches inSet belongs belongsAny joinRow joinRows greatest keep buildOn build thenRight round onward after run start intersect each pairs below lowered barred basis roundsOfPair roundsOfPairs rounds notInside add tops precedes insert sort trueAt answer inRow fourBytes answerLine refusalLine begun check reportSize reportOf reportsOf headerKind headerForm opened admitHeader eventForm extended unasked unsent admitEvent informed admitMessage asked admitQuestion admit finish proceed readItems readLog readFrames readList readEffect readOp posing openingOf opening cramped forecastReplyTo forecastOp lineEffect answerEffect answerOp holdsReplyTo holdsOp writeEffect writeOp answerLines printedOf printed mostBars ceiling forecast
 definitions = tt
 
 -- The twelve cases marked *.
@@ -235,10 +251,40 @@ pub received-in-turn : raiseAtom interleaved true (clear 0 1) (1 ∷ 0 ∷ []) �
 unfolding definitions
 received-in-turn = refl
 
+-- Panels: questions without 08, as without panels, one of them about a value of the header; the panel of the last event, and that of the header; as false; through zero; with the value of the same station and of the other; with header 10, where each is 0.
+pub panels :
+    (printed (asking-panels Q) ≡ ascii "400001010100000007B6\n")
+    × (printed (asking-panels (range 1 0 0)) ≡ ascii "400101010000000000BD\n")
+    × (printed (asking-panels (panel 0 9 9)) ≡ ascii "400001010200000000BC\n")
+    × (printed (asking-panels (panel 0 7 7)) ≡ ascii "400101000100000000BD\n")
+    × (printed (asking-panels (not (panel 1 8 8))) ≡ ascii "400001010200000000BC\n")
+    × (printed (asking-panels (panel 1 9 7)) ≡ ascii "400001010200000000BC\n")
+    × (printed (asking-panels (always (panel 0 7 9))) ≡ ascii "400101010200000000BB\n")
+    × (printed (asking-panels (and (panel 1 8 8) (range 1 2 2))) ≡ ascii "40000000000007B9\n")
+    × (printed (asking-panels (and (panel 0 9 9) (range 1 1 1))) ≡ ascii "400001010100000007B6\n")
+    × (holdsOp limits (asking-panels (panel 1 9 9)) 0 (1 ∷ 1 ∷ []) workspaceSize barspaceSize ≡ gives (0 ∷ []))
+    × (holdsOp limits (asking-panels (panel 1 9 9)) 0 (1 ∷ 2 ∷ []) workspaceSize barspaceSize ≡ gives (1 ∷ []))
+    × (printed (asking (panel 0 0 0)) ≡ ascii "400101010200000000BB\n")
+    × (printed (asking (panel 0 1 1)) ≡ ascii "40000000000000C0\n")
+unfolding definitions
+panels = (refl, refl, refl, refl, refl, refl, refl, refl, refl, refl, refl, refl, refl)
+
+-- What is refused: 5 for a header of kind 11 with the length of 10, and the reverse; 6 for an event likewise; 4 for a second header of the other kind; 8 for a station that is not there.
+pub no-panels :
+    (printed (ascii "110200000000ED\n") ≡ ascii "50050001AA\n")
+    × (printed (ascii "10020000000700000008DF\n") ≡ ascii "50050001AA\n")
+    × (printed (panelled ++ ascii "200000050100DA\n") ≡ ascii "50060005A5\n")
+    × (printed (bench ++ ascii "2001000200090102D1\n") ≡ ascii "50060005A5\n")
+    × (printed (bench ++ ascii "11020000000700000008DE\n") ≡ ascii "50040005A7\n")
+    × (printed (asking-panels (panel 2 0 0)) ≡ ascii "50080005A3\n")
+unfolding definitions
+no-panels = (refl, refl, refl, refl, refl, refl)
+
 -- What is promised of accepted logs and their questions is promised of this one.
 pub bench-asked : Asked limits (asking Q) 0 benched Q
 unfolding definitions benched
 bench-asked = record {
+  panelled = false;
   frames =
       (0x10 ∷ 2 ∷ 0 ∷ 0 ∷ 0 ∷ 0 ∷ [])
       ∷ (0x20 ∷ 0 ∷ 0 ∷ 5 ∷ 1 ∷ 0 ∷ [])

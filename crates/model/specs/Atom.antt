@@ -8,35 +8,50 @@ use lib.Dec.{leb, ltb, eqb}
 use Rattle.model.specs.Lists.{between}
 use Rattle.model.specs.Frames.{word}
 use Rattle.model.specs.Cut.{Cut, _!_, join}
-use Rattle.model.specs.Computation.{Computation, Message, count, clock, value}
+use Rattle.model.specs.Computation.{Computation, Report, Message, count, clock, report}
+use Rattle.model.specs.declared.Aspect.{Aspect}
+use Rattle.model.specs.declared.Aspect.the-variants.{Value, Panel}
 
 pub data Atom : Type 0 where
-  -- 01, station, lo, hi: the station's value is in the range from lo to hi
-  inRange : ℕ → ℕ → ℕ → Atom
+  -- 01 or 08, station, lo, hi: the station's value, or its panel, is in the range from lo to hi
+  inRange : Aspect → ℕ → ℕ → ℕ → Atom
   -- 07, i, j: no message from i to j is on its way
   clear : ℕ → ℕ → Atom
 
 -- BYTES
 
+-- The token of a range: 01 looks at the value, 08 at the panel.
+unfoldable pub rangeToken : Aspect → ℕ
+rangeToken Value = 0x01
+rangeToken Panel = 0x08
+
 -- The token byte and what follows it.
 unfoldable pub atomBytes : Atom → List ℕ
-atomBytes (inRange s lo hi) = 0x01 ∷ s ∷ (lo / 256) ∷ (lo % 256) ∷ (hi / 256) ∷ (hi % 256) ∷ []
+atomBytes (inRange a s lo hi) = rangeToken a ∷ s ∷ (lo / 256) ∷ (lo % 256) ∷ (hi / 256) ∷ (hi % 256) ∷ []
 atomBytes (clear i j) = 0x07 ∷ i ∷ j ∷ []
 
 -- How many bytes follow the token byte of an atom; none if the token is no atom's.
 unfoldable pub operands : ℕ → Option ℕ
-operands t = cond (eqb t 0x01) (some 5) (cond (eqb t 0x07) (some 2) none)
+operands t = cond (eqb t 0x01) (some 5) (cond (eqb t 0x07) (some 2) (cond (eqb t 0x08) (some 5) none))
 
--- The atom of a token byte and the bytes that follow.
+-- The range of the bytes that follow a token byte, and the atom of both.
+unfoldable pub rangeOf : Aspect → List ℕ → Atom
+rangeOf a q = inRange a (getD q 0 0) (word (drop 1 q)) (word (drop 3 q))
+
 unfoldable pub atomOf : ℕ → List ℕ → Atom
-atomOf t q = cond (eqb t 0x01) (inRange (getD q 0 0) (word (drop 1 q)) (word (drop 3 q))) (clear (getD q 0 0) (getD q 1 0))
+atomOf t q = cond (eqb t 0x01) (rangeOf Value q) (cond (eqb t 0x07) (clear (getD q 0 0) (getD q 1 0)) (rangeOf Panel q))
 
 -- Of n stations each that is named is there.
 unfoldable pub soundAtom : ℕ → Atom → Bool
-soundAtom n (inRange s lo hi) = ltb s n
+soundAtom n (inRange a s lo hi) = ltb s n
 soundAtom n (clear i j) = ltb i n && ltb j n
 
 -- TRUTH
+
+-- What a range looks at, of a report.
+unfoldable pub seen : Aspect → Report → ℕ
+seen Value r = r .value
+seen Panel r = r .panel
 
 -- Does a range hold for a value? One whose lo is above hi holds for values from lo up and for values up to hi.
 unfoldable pub within : ℕ → ℕ → ℕ → Bool
@@ -57,12 +72,12 @@ noMessage p (m ∷ l) = not (p m) && noMessage p l
 
 -- Is the atom true at the cut? If not, it is false there.
 unfoldable pub isTrue : Computation → Atom → Cut → Bool
-isTrue K (inRange s lo hi) c = within lo hi (value K s (c ! s))
+isTrue K (inRange a s lo hi) c = within lo hi (seen a (report K s (c ! s)))
 isTrue K (clear i j) c = noMessage (onWay i j c) (K .messages)
 
 -- Can the atom be worked out, as true or as false? 07 cannot as false.
 unfoldable pub askable : Bool → Atom → Bool
-askable b (inRange s lo hi) = true
+askable b (inRange a s lo hi) = true
 askable b (clear i j) = b
 
 -- RAISING: the least consistent cut that contains c and at which an atom is true, or false; or none
@@ -86,8 +101,8 @@ unfoldable pub passes : Bool → ℕ → ℕ → ℕ → Bool
 passes true lo hi v = within lo hi v
 passes false lo hi v = not (within lo hi v)
 
--- For an atom as true, or as false: 01 looks for a value of its station, 07 for an event of the receiver at which nothing is on its way; as false 07 is not worked out, and none stands for it.
+-- For an atom as true, or as false: 01 and 08 look for a value or a panel of their station, 07 looks for an event of the receiver at which nothing is on its way; as false 07 is not worked out, and none stands for it.
 unfoldable pub raiseAtom : Computation → Bool → Atom → Cut → Option Cut
-raiseAtom K b (inRange s lo hi) c = raiseTo K s (λ k. passes b lo hi (value K s k)) c
+raiseAtom K b (inRange a s lo hi) c = raiseTo K s (λ k. passes b lo hi (seen a (report K s k))) c
 raiseAtom K true (clear i j) c = raiseTo K j (λ k. isTrue K (clear i j) (join c (clock K j k))) c
 raiseAtom K false (clear i j) c = none

@@ -1,4 +1,4 @@
--- What the stations did: their first values, their events, each with a clock, and the messages between them.
+-- What the stations did: what they first report, their events, each with a clock, and the messages between them.
 use mathlib.Core.Path.{_≡_}
 use Prim.Native.Nat.{ℕ, zero, suc, _-_, _≤_}
 use mathlib.Core.Bool.{Bool, cond, not, _&&_, _||_}
@@ -8,9 +8,14 @@ use lib.Dec.{leb, ltb, eqb}
 use Rattle.model.specs.Lists.{total, between, every}
 use Rattle.model.specs.Cut.{Cut, _!_, _⊑_, empty, inside}
 
--- An event: the station's new value, and for each station how many of its events lie before it or are it.
-pub record Event : Type 0 where
+-- What a station reports: its value, and the number of the panel.
+pub record Report : Type 0 where
   pub value : ℕ
+  pub panel : ℕ
+
+-- An event: what the station then reports, and for each station how many of its events lie before it or are it.
+pub record Event : Type 0 where
+  pub report : Report
   pub clock : Cut
 
 -- A message: the sender and the number of its event, the receiver and the number of its event, or 0 if it never came.
@@ -20,9 +25,9 @@ pub record Message : Type 0 where
   pub receiver : ℕ
   pub received : ℕ
 
--- The first value of each station, the events of each station in their order, and the messages.
+-- What each station first reports, the events of each station in their order, and the messages.
 pub record Computation : Type 0 where
-  pub initial : List ℕ
+  pub initial : List Report
   pub events : List (List Event)
   pub messages : List Message
 
@@ -46,19 +51,22 @@ full K = map length (K .events)
 abbrev pub eventCount : Computation → ℕ
 eventCount K = total (full K)
 
--- What stands past the last event.
+-- What stands past the last station, and past the last event.
+abbrev pub noReport : Report
+noReport = record { value = 0; panel = 0 }
+
 abbrev pub noEvent : Event
-noEvent = record { value = 0; clock = [] }
+noEvent = record { report = noReport; clock = [] }
 
 -- The clock of event k of station j; events count from 1, and at 0 nothing has happened.
 unfoldable pub clock : Computation → ℕ → ℕ → Cut
 clock K j zero = empty (stations K)
 clock K j (suc k) = (getD (history K j) k noEvent) .clock
 
--- The value of station j after its event k; at 0 its first value.
-unfoldable pub value : Computation → ℕ → ℕ → ℕ
-value K j zero = getD (K .initial) j 0
-value K j (suc k) = (getD (history K j) k noEvent) .value
+-- What station j reports after its event k; at 0 what it first reports.
+unfoldable pub report : Computation → ℕ → ℕ → Report
+report K j zero = getD (K .initial) j noReport
+report K j (suc k) = (getD (history K j) k noEvent) .report
 
 -- A cut of the n stations that holds no more events than there are, and with each event all that its clock counts.
 pub record Consistent (K : Computation) (c : Cut) : Type 0 where

@@ -98,7 +98,7 @@ weigh a u b (always f) = u + weigh a u b f
 abbrev pub tokens : Formula → ℕ
 tokens = weigh 1 1 1
 
--- Atoms: tokens 01 and 07.
+-- Atoms: tokens 01, 07 and 08.
 abbrev pub atoms : Formula → ℕ
 atoms = weigh 1 0 0
 

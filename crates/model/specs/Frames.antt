@@ -11,12 +11,6 @@ use Rattle.model.specs.Bytes.{line}
 unfoldable pub word : List ℕ → ℕ
 word f = 256 * getD f 0 0 + getD f 1 0
 
--- All numbers of two bytes.
-unfoldable pub words : List ℕ → List ℕ
-words [] = []
-words (h ∷ []) = []
-words (h ∷ l ∷ f) = (256 * h + l) ∷ words f
-
 -- The log of some frames.
 unfoldable pub logOf : List (List ℕ) → List ℕ
 logOf [] = []

@@ -27,9 +27,12 @@ mostHeld = 54
 abbrev pub workspaceSize : ℕ
 workspaceSize = mostHeld * printLimits .stations * (printLimits .events + 1)
 
--- The bytes of an event's slot: its value in two, its clock in one for each station.
+-- The bytes of an event's report in the store, its value in two and its panel in two; and of its slot, with its clock in one for each station.
+abbrev pub storedReport : ℕ
+storedReport = 4
+
 abbrev pub slotSize : ℕ
-slotSize = limits .stations + 2
+slotSize = limits .stations + storedReport
 
 -- The event table: for each station a slot before its first event and one for each event.
 abbrev pub tableSize : ℕ
@@ -47,9 +50,12 @@ storeSize = tableSize + limits .messages * messageSize
 abbrev pub startsSize : ℕ
 startsSize = (limits .events + 1) * limits .stations
 
--- What atoms look at: a value for each station and for each event; then the number of messages, and three numbers for each.
+-- What atoms look at: a report for each station and for each event, all values and then all panels; then the number of messages, and three numbers for each.
+abbrev pub reportsSize : ℕ
+reportsSize = limits .stations + limits .events
+
 abbrev pub valuesSize : ℕ
-valuesSize = limits .stations + limits .events
+valuesSize = 2 * reportsSize
 
 abbrev pub factsSize : ℕ
 factsSize = valuesSize + 1 + 3 * limits .messages

@@ -23,9 +23,10 @@ use Rattle.model.specs.Operations.{write, readOp, forecastOp, answerOp, 
 
 -- The log is accepted under the limits m, K is its computation, and f its question number q.
 pub record Asked (m : Limits) (log : List ℕ) (q : ℕ) (K : Computation) (f : Formula) : Type 0 where
+  pub panelled : Bool
   pub frames : List (List ℕ)
   pub questions : List Formula
-  pub reads : readLog m log ≡ accepted (record { computation = K; questions = questions; frames = frames })
+  pub reads : readLog m log ≡ accepted (record { panelled = panelled; computation = K; questions = questions; frames = frames })
   pub is : getElem? questions q ≡ some f
 
 -- The formula is true at c, and at no other consistent cut that contains c.

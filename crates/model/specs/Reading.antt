@@ -1,5 +1,5 @@
 -- Reading frame by frame: the first fault, or all that was read.
-use Prim.Native.Nat.{ℕ, suc, _+_, _*_}
+use Prim.Native.Nat.{ℕ, zero, suc, _+_, _*_}
 use mathlib.Core.Bool.{Bool, true, false, cond, not, _&&_}
 use mathlib.Core.List.{List, [], _∷_, _++_, map}
 use mathlib.Core.Option.{Option, none, some}
@@ -8,20 +8,21 @@ use lib.Dec.{leb, ltb, eqb}
 use Rattle.model.specs.declared.Limits.{Limits}
 use Rattle.model.specs.Lists.{between}
 use Rattle.model.specs.Bytes.{linesOf, Item, frame, bad, items}
-use Rattle.model.specs.Frames.{word, words, framesOf}
+use Rattle.model.specs.Frames.{word, framesOf}
 use Rattle.model.specs.Formula.{Formula, formulaOf, sound}
 use Rattle.model.specs.Rules.{asTrue, workable}
-use Rattle.model.specs.Computation.{Event, Message, Computation, stations, history, eventCount, clockOk, messageOk}
+use Rattle.model.specs.Computation.{Report, Event, Message, Computation, stations, history, eventCount, clockOk, messageOk}
 use Rattle.model.specs.Size.{fits}
 
--- What has been read: the computation, with no stations before the header; the questions; the frames.
+-- What has been read: whether the header says that reports carry a panel; the computation, with no stations before the header; the questions; the frames.
 pub record Reading : Type 0 where
+  pub panelled : Bool
   pub computation : Computation
   pub questions : List Formula
   pub frames : List (List ℕ)
 
 abbrev pub nothing : Reading
-nothing = record { computation = record { initial = []; events = []; messages = [] }; questions = []; frames = [] }
+nothing = record { panelled = false; computation = record { initial = []; events = []; messages = [] }; questions = []; frames = [] }
 
 -- Has a header been read?
 unfoldable pub begun : Reading → Bool
@@ -37,32 +38,54 @@ unfoldable pub check : ℕ → Bool → Step → Step
 check k true s = s
 check k false s = fault k
 
--- HEADER: station count n, then n initial values of two bytes
+-- REPORT: a value of two bytes and, where the header says so (p), the number of the panel in two more
 
-unfoldable pub headerForm : Limits → List ℕ → Bool
-headerForm m f = leb 1 (length f) && between 1 (m .stations) (getD f 0 0) && eqb (length f) (1 + 2 * getD f 0 0)
+-- Its bytes.
+unfoldable pub reportSize : Bool → ℕ
+reportSize true = 4
+reportSize false = 2
 
--- The stations with their initial values, no events and no messages.
-unfoldable pub opened : List ℕ → Computation
-opened values = record { initial = values; events = map (λ (v : ℕ). []) values; messages = [] }
+-- The report at the front; where no panel is carried it is 0.
+unfoldable pub reportOf : Bool → List ℕ → Report
+reportOf true f = record { value = word f; panel = word (drop 2 f) }
+reportOf false f = record { value = word f; panel = 0 }
+
+-- The n reports at the front.
+unfoldable pub reportsOf : Bool → ℕ → List ℕ → List Report
+reportsOf p zero f = []
+reportsOf p (suc n) f = reportOf p f ∷ reportsOf p n (drop (reportSize p) f)
+
+-- HEADER: station count n, then n reports; of kind 11 it says that reports carry a panel, of kind 10 that they don't
+
+-- Its kind.
+unfoldable pub headerKind : Bool → ℕ
+headerKind true = 0x11
+headerKind false = 0x10
+
+unfoldable pub headerForm : Limits → Bool → List ℕ → Bool
+headerForm m p f = leb 1 (length f) && between 1 (m .stations) (getD f 0 0) && eqb (length f) (1 + getD f 0 0 * reportSize p)
+
+-- The stations with what they first report, no events and no messages.
+unfoldable pub opened : List Report → Computation
+opened reports = record { initial = reports; events = map (λ (x : Report). []) reports; messages = [] }
 
 -- What has been read after a header.
-abbrev pub withHeader : Reading → List ℕ → Reading
-withHeader r f = record { computation = opened (words (drop 1 f)); questions = r .questions; frames = r .frames ++ ((0x10 ∷ f) ∷ []) }
+abbrev pub withHeader : Bool → Reading → List ℕ → Reading
+withHeader p r f = record { panelled = p; computation = opened (reportsOf p (getD f 0 0) (drop 1 f)); questions = r .questions; frames = r .frames ++ ((headerKind p ∷ f) ∷ []) }
 
-unfoldable pub admitHeader : Limits → Reading → List ℕ → Step
-admitHeader m r f = check 4 (not (begun r)) (check 5 (headerForm m f) (go (withHeader r f)))
+unfoldable pub admitHeader : Limits → Bool → Reading → List ℕ → Step
+admitHeader m p r f = check 4 (not (begun r)) (check 5 (headerForm m p f) (go (withHeader p r f)))
 
--- EVENT: station s, its new value (two bytes), n clock bytes
+-- EVENT: station s, its report, n clock bytes
 
 abbrev pub stationOf : List ℕ → ℕ
 stationOf f = getD f 0 0
 
-abbrev pub eventOf : List ℕ → Event
-eventOf f = record { value = word (drop 1 f); clock = drop 3 f }
+abbrev pub eventOf : Bool → List ℕ → Event
+eventOf p f = record { report = reportOf p (drop 1 f); clock = drop (1 + reportSize p) f }
 
-unfoldable pub eventForm : ℕ → List ℕ → Bool
-eventForm n f = eqb (length f) (n + 3) && ltb (stationOf f) n
+unfoldable pub eventForm : Bool → ℕ → List ℕ → Bool
+eventForm p n f = eqb (length f) (1 + reportSize p + n) && ltb (stationOf f) n
 
 -- The computation with one more event of station s.
 unfoldable pub extended : Computation → ℕ → Event → Computation
@@ -70,7 +93,7 @@ extended K s e = record { initial = K .initial; events = set (K .events) s (hist
 
 -- What has been read after an event.
 abbrev pub withEvent : Reading → List ℕ → Reading
-withEvent r f = record { computation = extended (r .computation) (stationOf f) (eventOf f); questions = r .questions; frames = r .frames ++ ((0x20 ∷ f) ∷ []) }
+withEvent r f = record { panelled = r .panelled; computation = extended (r .computation) (stationOf f) (eventOf (r .panelled) f); questions = r .questions; frames = r .frames ++ ((0x20 ∷ f) ∷ []) }
 
 -- No question has been asked yet.
 unfoldable pub unasked : Reading → Bool
@@ -83,8 +106,8 @@ unsent r = eqb (length (r .computation .messages)) 0
 unfoldable pub admitEvent : Limits → Reading → List ℕ → Step
 admitEvent m r f =
     check 4 (begun r && unasked r && unsent r && ltb (eventCount (r .computation)) (m .events))
-    (check 6 (eventForm (stations (r .computation)) f)
-    (check 7 (clockOk (r .computation) (stationOf f) (eventOf f .clock))
+    (check 6 (eventForm (r .panelled) (stations (r .computation)) f)
+    (check 7 (clockOk (r .computation) (stationOf f) (eventOf (r .panelled) f .clock))
     (go (withEvent r f))))
 
 -- MESSAGE: sender, number of its event, receiver, number of its event or 00
@@ -98,7 +121,7 @@ informed K x = record { initial = K .initial; events = K .events; messages = K .
 
 -- What has been read after a message.
 abbrev pub withMessage : Reading → List ℕ → Reading
-withMessage r f = record { computation = informed (r .computation) (messageOf f); questions = r .questions; frames = r .frames ++ ((0x25 ∷ f) ∷ []) }
+withMessage r f = record { panelled = r .panelled; computation = informed (r .computation) (messageOf f); questions = r .questions; frames = r .frames ++ ((0x25 ∷ f) ∷ []) }
 
 unfoldable pub admitMessage : Limits → Reading → List ℕ → Step
 admitMessage m r f =
@@ -110,7 +133,7 @@ admitMessage m r f =
 
 -- What has been read after a question, of which φ is the formula.
 abbrev pub withQuestion : Reading → List ℕ → Formula → Reading
-withQuestion r f φ = record { computation = r .computation; questions = r .questions ++ (φ ∷ []); frames = r .frames ++ ((0x30 ∷ f) ∷ []) }
+withQuestion r f φ = record { panelled = r .panelled; computation = r .computation; questions = r .questions ++ (φ ∷ []); frames = r .frames ++ ((0x30 ∷ f) ∷ []) }
 
 unfoldable pub asked : Reading → List ℕ → Option Formula → Step
 asked r f none = fault 8
@@ -123,10 +146,11 @@ admitQuestion m r f = check 4 (begun r && ltb (length (r .questions)) (m .questi
 unfoldable pub admit : Limits → Reading → List ℕ → Step
 admit m r [] = fault 4
 admit m r (kind ∷ f) =
-    cond (eqb kind 0x10) (admitHeader m r f)
+    cond (eqb kind 0x10) (admitHeader m false r f)
+    (cond (eqb kind 0x11) (admitHeader m true r f)
     (cond (eqb kind 0x20) (admitEvent m r f)
     (cond (eqb kind 0x25) (admitMessage m r f)
-    (cond (eqb kind 0x30) (admitQuestion m r f) (fault 4))))
+    (cond (eqb kind 0x30) (admitQuestion m r f) (fault 4)))))
 
 -- ALL FRAMES
 

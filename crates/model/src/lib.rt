@@ -58,8 +58,11 @@ impl Log {
     // The most that is printed: an answer line for each question.
     pub const PRINTED: usize = Log::QUESTIONS * Log::LINE;
 
-    // The bytes of an event's slot: its value in two, its clock in one for each station.
-    pub const SLOT: usize = Log::STATIONS + 2;
+    // The bytes of an event's report in the store, its value in two and its panel in two; and of its slot, with its clock in one for
+    // each station.
+    pub const REPORT: usize = 4;
+
+    pub const SLOT: usize = Log::STATIONS + Log::REPORT;
 
     // The event table: for each station a slot before its first event and one for each event.
     pub const TABLE: usize = Log::STATIONS * (Log::EVENTS + 1) * Log::SLOT;
@@ -73,8 +76,11 @@ impl Log {
     // The starts: the empty cut and the clock of each event.
     pub const STARTS: usize = (Log::EVENTS + 1) * Log::STATIONS;
 
-    // What atoms look at: a value for each station and for each event; then the number of messages, and three numbers for each.
-    pub const VALUES: usize = Log::STATIONS + Log::EVENTS;
+    // What atoms look at: a report for each station and for each event, all values and then all panels; then the number of messages, and
+    // three numbers for each.
+    pub const REPORTS: usize = Log::STATIONS + Log::EVENTS;
+
+    pub const VALUES: usize = 2 * Log::REPORTS;
 
     pub const FACTS: usize = Log::VALUES + 1 + 3 * Log::MESSAGES;
 
@@ -117,6 +123,12 @@ impl Log {
     {
         [0u8; Log::STATIONS]
     }
+}
+
+// What a range looks at: 01 at a station's value, 08 at its panel.
+pub enum Aspect {
+    Value,
+    Panel,
 }
 
 // What can be wrong.

@@ -99,7 +99,7 @@ module _ {m : Limits} {log : List ℕ} {s : State} {k : ℕ} {list t : List ℕ}
     spelt-at = sym (prefix-formula (bytesAt q) f (bytes-are q below) (question-spelt (law .framed) q ∙ is) .0)
 
     pub is-asked : Asked m log q (a .reading .computation) f
-    is-asked = record { frames = a .reading .frames; questions = a .reading .questions; reads = a .is; is = is }
+    is-asked = record { panelled = a .reading .panelled; frames = a .reading .frames; questions = a .reading .questions; reads = a .is; is = is }
 
     pub good-at : (sound (stations (a .reading .computation)) f ≡ true) × (fits f ≡ true) × (workable (asTrue f) ≡ true)
     good-at = law .good q f is

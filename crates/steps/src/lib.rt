@@ -3,6 +3,8 @@ use cells::NONE;
 use cells::copy;
 use cells::fill;
 use cells::larger;
+use model::Aspect;
+use model::Log;
 use structure::Shape;
 use structure::event_row;
 ghost use mathlib.Core.Path.{_≡_};
@@ -19,11 +21,12 @@ ghost use Rattle.model.specs.Structure.{build};
 ghost use Rattle.model.specs.Atom.{passes, raiseAtom};
 ghost use Rattle.model.specs.Atom.Atom.{inRange, clear};
 ghost use Rattle.structure.specs.Layout.{eventRow, standing};
-ghost use Rattle.structure.specs.Laid.{Laid, Facts};
+ghost use Rattle.structure.specs.Laid.{Laid, aspectAt, Facts};
 ghost use Rattle.steps.specs.Rows.{rowAt, entry, joinedRow, atomRow, Tabled, Leads, Ended};
 
-// A station and a range of its values, ends included; through zero where lo is above hi.
+// What is looked at of a station, and a range of it, ends included; through zero where lo is above hi.
 pub struct Interval {
+    pub aspect: Aspect,
     pub station: usize,
     pub lo: u16,
     pub hi: u16,
@@ -65,7 +68,17 @@ pub fn end_bars(bs: &mut [u8], at: usize, count: usize, n: usize)
     }
 }
 
-// The table of a station whose values stand from at on: entry k is the first count from k on whose value passes, or 255.
+// Where the numbers that a range looks at begin in the facts: values at the front, panels behind them.
+fn aspect_at(a: Aspect) -> usize
+    ensures { λ r. ⌜ r ≡ aspectAt a ⌝ }
+{
+    match a {
+        Aspect::Value => 0,
+        Aspect::Panel => Log::REPORTS,
+    }
+}
+
+// The table of a station whose values, or panels, stand from at on: entry k is the first count from k on whose value passes, or 255.
 fn fill_table(
     table: &mut [u8],
     values: &[u16],
@@ -157,7 +170,7 @@ pub fn atom(
     if ws[0] == NONE { 0 } else { 1 }
 }
 
-// 01, either sign: its table says which event of the station has the next value that passes.
+// 01 or 08, either sign: its table says which event of the station has the next value, or panel, that passes.
 pub fn range(
     ws: &mut [u8],
     bs: &mut [u8],
@@ -171,8 +184,9 @@ pub fn range(
     requires { ⌜ (r .station < x .n) × ((x .e + 1) * x .n ≤ length (now ws)) × (16 * x .n ≤ length (now bs)) ⌝ }
     ensures { λ c. ⌜ (c ≤ 1) × (0 < c → getD (now (ws .exit)) 0 0 ≡ 255 → ⊥)
         × ((K : Computation) → Laid K x (now (starts .entry)) → Facts K x (now (facts .entry))
-        → standing (x .n) (full K) c (now (ws .exit)) (now (bs .exit)) ≡ build K (raiseAtom K sign (inRange (r .station) (r .lo) (r .hi))) []) ⌝ }
+        → standing (x .n) (full K) c (now (ws .exit)) (now (bs .exit)) ≡ build K (raiseAtom K sign (inRange (r .aspect) (r .station) (r .lo) (r .hi))) []) ⌝ }
 {
+    let a = r.aspect;
     let s = r.station;
     let counts = x.counts;
     let offs = x.offs;
@@ -181,7 +195,7 @@ pub fn range(
     fill_table(
         &mut table,
         facts,
-        off + s,
+        aspect_at(a) + off + s,
         counts[s] as usize,
         sign,
         r.lo,

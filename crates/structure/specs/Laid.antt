@@ -4,10 +4,13 @@ use Prim.Native.Nat.{ℕ, _+_, _*_, _≤_, _<_}
 use mathlib.Core.List.{List, map}
 use mathlib.Core.Option.{some}
 use lib.ListN.{length, getD, getElem?, take, drop}
-use Rattle.model.specs.Limits.{limits, valuesSize, factsSize}
+use Rattle.model.specs.declared.Aspect.{Aspect}
+use Rattle.model.specs.declared.Aspect.the-variants.{Value, Panel}
+use Rattle.model.specs.Limits.{limits, reportsSize, valuesSize, factsSize}
 use Rattle.model.specs.Lists.{total}
 use Rattle.model.specs.Cut.{empty}
-use Rattle.model.specs.Computation.{Computation, Event, Message, stations, count, full, eventCount, value}
+use Rattle.model.specs.Computation.{Computation, Event, Message, stations, count, full, eventCount, report}
+use Rattle.model.specs.Atom.{seen}
 use Rattle.lattice.proofs.Valid.{Valid}
 use Rattle.structure.specs.declared.Shape.{Shape}
 use Rattle.structure.specs.Layout.{stationsAt}
@@ -48,9 +51,14 @@ pub record AllFiled (messages : List Message) (facts : List ℕ) : Type 0 where
   pub number : getD facts valuesSize 0 ≡ length messages
   pub each : (q : ℕ) (m : Message) → getElem? messages q ≡ some m → Filed m facts (messageAt q)
 
--- What atoms look at: each station's first value and those of its events, station by station; and the messages.
+-- Where what a range looks at begins in the facts: values at the front, panels behind them.
+abbrev pub aspectAt : Aspect → ℕ
+aspectAt Value = 0
+aspectAt Panel = reportsSize
+
+-- What atoms look at: what each station first reports and what its events do, station by station, values and panels apart; and the messages.
 pub record Facts (K : Computation) (x : Shape) (facts : List ℕ) : Type 0 where
-  pub values-are : (j k : ℕ) → j < x .n → k ≤ count K j → getD facts (total (take j (full K)) + j + k) 0 ≡ value K j k
+  pub shown : (a : Aspect) (j k : ℕ) → j < x .n → k ≤ count K j → getD facts (aspectAt a + (total (take j (full K)) + j + k)) 0 ≡ seen a (report K j k)
   pub filed : AllFiled (K .messages) facts
 
 -- K is laid out, with what its atoms look at.

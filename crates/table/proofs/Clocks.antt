@@ -10,6 +10,7 @@ use lib.Dec.{eqb, leb}
 use lib.ListN.{length, drop, take, getD}
 use lib.Seq.{drop-cons}
 use borrow.Author.Tests.{eq-eqb, ne-eqb, le-leb, lt-leb, eqb-true, eqb-false, not-true, not-false}
+use Rattle.model.specs.Limits.{storedReport}
 use Rattle.model.specs.Lists.{every}
 use Rattle.model.specs.Cut.{inside}
 use Rattle.model.specs.Computation.{Computation, stations, count, clock, known, counted, clockOk}
@@ -67,10 +68,10 @@ module _ {K : Computation} (v : List ℕ) {counts t : List ℕ} (g : Stored K (l
   unfolding known
   event-missing h = sym (rw (lt-leb k (count K j) (omega (arith, g .each j))))
 
-  pub event-there : k ≤ m → j < length v → (a : ℕ) → a ≡ slot j k → (b : Bool) → b ≡ inside (take (length v) (drop (a + 2) t)) v → b ≡ known K v j k
+  pub event-there : k ≤ m → j < length v → (a : ℕ) → a ≡ slot j k → (b : Bool) → b ≡ inside (take (length v) (drop (a + storedReport) t)) v → b ≡ known K v j k
   unfolding known
   event-there h l a n b i =
-      let p : take (stations K) (drop (slot j k + 2) t) ≡ clock K j k = g .table .clocks j k (rw (g .size) l) (omega (arith, g .each j)) in
+      let p : take (stations K) (drop (slot j k + storedReport) t) ≡ clock K j k = g .table .clocks j k (rw (g .size) l) (omega (arith, g .each j)) in
       i ∙ sym (rw (le-leb k (count K j) (omega (arith, g .each j)), ← p, g .size, n))
 
 -- b is what the test of event k says, and k is the event that a rule asks for

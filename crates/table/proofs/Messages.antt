@@ -10,7 +10,7 @@ use lib.Dec.{leb, ltb}
 use lib.ListN.{take, drop, getD, getElem?}
 use lib.Seq.{getD-take, getD-drop}
 use borrow.Author.Tests.{ltb-true, lt-ltb, not-true, not-false}
-use Rattle.model.specs.Limits.{limits}
+use Rattle.model.specs.Limits.{storedReport, limits}
 use Rattle.model.specs.Cut.{_!_}
 use Rattle.model.specs.Computation.{Computation, Message, stations, count, clock, messageOk}
 use Rattle.lattice.proofs.Tests.{clash, and-iff, false-iff, leb-iff, same-test}
@@ -68,13 +68,13 @@ module _ {K : Computation} {n : ℕ} {counts t : List ℕ} (g : Stored K n count
     never-came e = sym (messageOk-iff K m .1 (sendable (λ d. absurd (d (sym is-received ∙ e)))))
 
     -- The entry of the sender in the receiving event's clock.
-    entry : (a y : ℕ) → a ≡ slot j k → y ≡ getD t (a + 2 + i) 0 → y ≡ clock K (m .receiver) (m .received) ! m .sender
+    entry : (a y : ℕ) → a ≡ slot j k → y ≡ getD t (a + storedReport + i) 0 → y ≡ clock K (m .receiver) (m .received) ! m .sender
     entry a y e w =
-        let c : take (stations K) (drop (slot j k + 2) t) ≡ clock K j k = g .table .clocks j k (rw (g .size) (receives .0)) (rw (each j) (receives .1)) in
-        let z : getD (take (stations K) (drop (slot j k + 2) t)) i 0 ≡ getD t (slot j k + 2 + i) 0 = getD-take (stations K) (drop (slot j k + 2) t) i 0 (rw (g .size) (sends .0)) ∙ getD-drop (slot j k + 2) t i 0 in
-        rw (← is-sender, ← is-receiver, ← is-received, ← c) (w ∙ ap (λ (s : ℕ). getD t (s + 2 + i) 0) e ∙ sym z)
+        let c : take (stations K) (drop (slot j k + storedReport) t) ≡ clock K j k = g .table .clocks j k (rw (g .size) (receives .0)) (rw (each j) (receives .1)) in
+        let z : getD (take (stations K) (drop (slot j k + storedReport) t)) i 0 ≡ getD t (slot j k + storedReport + i) 0 = getD-take (stations K) (drop (slot j k + storedReport) t) i 0 (rw (g .size) (sends .0)) ∙ getD-drop (slot j k + storedReport) t i 0 in
+        rw (← is-sender, ← is-receiver, ← is-received, ← c) (w ∙ ap (λ (s : ℕ). getD t (s + storedReport + i) 0) e ∙ sym z)
 
-    pub received-with : k ≢ 0 → (a y : ℕ) → a ≡ slot j k → y ≡ getD t (a + 2 + i) 0 → leb x y ≡ messageOk K m
+    pub received-with : k ≢ 0 → (a y : ℕ) → a ≡ slot j k → y ≡ getD t (a + storedReport + i) 0 → leb x y ≡ messageOk K m
     received-with d a y e w = same-test (leb x y) (messageOk K m)
         (λ h. messageOk-iff K m .1 (sendable (λ z. rw (← entry a y e w, ← is-sent) (leb-iff x y .0 h))))
         (λ h. leb-iff x y .1 (rw (is-sent, entry a y e w) (messageOk-iff K m .0 h .carried (λ z. d (is-received ∙ z)))))

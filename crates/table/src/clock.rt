@@ -50,7 +50,7 @@ pub fn known(v: &[u8], j: usize, k: usize, counts: &[u8; 8], store: &[u8]) -> bo
         return false;
     }
     let at = slot(j, k);
-    nowhere_above(store, at + 2, v)
+    nowhere_above(store, at + model::Log::REPORT, v)
 }
 
 // Does the clock v fit the next event of station s?

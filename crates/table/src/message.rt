@@ -48,5 +48,5 @@ pub fn message_ok(bytes: &[u8], n: usize, counts: &[u8; 8], store: &[u8]) -> boo
         return true;
     }
     let at = slot(j, k);
-    x <= wide(store[at + 2 + i])
+    x <= wide(store[at + model::Log::REPORT + i])
 }

@@ -1,6 +1,7 @@
 // The steps for tokens of at most one operand: an atom at the front of a question, not, possibly and not possibly.
 use cells::wide;
 use cells::word;
+use model::Aspect;
 use structure::Sets;
 use structure::Shape;
 ghost use mathlib.Core.Path.{_≡_};
@@ -8,6 +9,7 @@ ghost use mathlib.Core.Bool.{true};
 ghost use mathlib.Core.List.{_∷_};
 ghost use Prim.Native.Nat.{_+_, _*_, _≤_, _<_};
 ghost use lib.ListN.{length, getD, replicate};
+ghost use Rattle.model.specs.Atom.{rangeToken};
 ghost use Rattle.structure.specs.Shaped.{Shaped};
 ghost use Rattle.steps.specs.Rows.{rowAt};
 ghost use Rattle.modal.specs.Post.{Present};
@@ -47,7 +49,7 @@ fn of_station(count: usize, s: u8) -> Sets
     }
 }
 
-// 01 at the front of q, under the sign given.
+// 01 or 08 at the front of q, by what it looks at, under the sign given.
 fn range(
     q: &[u8],
     ws: &mut [u8],
@@ -55,16 +57,18 @@ fn range(
     x: Shape,
     starts: &[u8],
     facts: &[u16],
+    a: Aspect,
     sign: bool,
 ) -> Basis
     requires { ⌜ Ready sign x (now q) (now starts) (now facts) (length (now ws)) (length (now bs)) ⌝ }
-    requires { ⌜ getD (now q) 0 0 ≡ 1 ⌝ }
+    requires { ⌜ getD (now q) 0 0 ≡ rangeToken a ⌝ }
     ensures { λ r. ⌜ Made sign x (now (q .entry)) (now (starts .entry)) (now (facts .entry)) (r .sets) (r .used) (r .rounds) (now (ws .exit)) (now (bs .exit)) ⌝ }
 {
     let s = q[1];
     let lo = word(q, 2);
     let hi = word(q, 4);
     let r = steps::Interval {
+        aspect: a,
         station: wide(s),
         lo: lo,
         hi: hi,
@@ -105,9 +109,10 @@ pub fn leaf(
 {
     let t = q[0];
     match t {
-        1 => range(q, ws, bs, x, starts, facts, sign),
+        1 => range(q, ws, bs, x, starts, facts, Aspect::Value, sign),
         7 => clear(q, ws, bs, x, starts, facts),
-        0 | 2..=6 | 8..=255 => unmarked(0, 0, 0),
+        8 => range(q, ws, bs, x, starts, facts, Aspect::Panel, sign),
+        0 | 2..=6 | 9..=255 => unmarked(0, 0, 0),
     }
 }
 

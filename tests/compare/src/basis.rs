@@ -1,6 +1,6 @@
 //! The basis, with rows of fixed size worked on in place.
 use crate::formula::{within, Token, Tokens};
-use crate::log::{contained, Cut, Log, Message, OPERATIONS};
+use crate::log::{contained, Cut, Event, Log, Message, OPERATIONS};
 
 /// A row that is none has 255 at station 0.
 const NONE: Cut = [255; 8];
@@ -81,11 +81,11 @@ impl<'a> Worker<'a> {
         out
     }
 
-    fn range(&self, station: usize, inside: impl Fn(u16) -> bool) -> Structure {
+    fn range(&self, station: usize, inside: impl Fn(&Event) -> bool) -> Structure {
         let h = &self.log.history[station];
         let mut next = [None; OPERATIONS.events + 2];
         for k in (0..h.len()).rev() {
-            next[k] = if inside(h[k].value) { Some(&h[k].clock) } else { next[k + 1] };
+            next[k] = if inside(&h[k]) { Some(&h[k].clock) } else { next[k + 1] };
         }
         let raised = |c: &Cut| {
             let mut d = *c;
@@ -171,7 +171,7 @@ impl<'a> Worker<'a> {
     pub fn basis(&mut self, f: &mut Tokens, sign: bool) -> Vec<Structure> {
         let mut out = Vec::new();
         match (f.take(), sign) {
-            (Token::Range { station, lo, hi }, _) => out.push(self.range(station, |v| within(lo, hi, v) == sign)),
+            (Token::Range { field, station, lo, hi }, _) => out.push(self.range(station, |e| within(lo, hi, e.field(field)) == sign)),
             (Token::Clear { sender, receiver }, true) => out.push(self.clear(sender, receiver)),
             (Token::Clear { .. }, false) => unreachable!("refused"),
             (Token::Not, _) => out = self.basis(f, !sign),

@@ -4,7 +4,8 @@ use crate::clears::Clears;
 use crate::draw::Draw;
 use crate::ends;
 use crate::fault::{Refusal, KINDS};
-use crate::formula::{self, Token, Tokens};
+use crate::fields::Fields;
+use crate::formula::{self, placed, Token, Tokens};
 use crate::large;
 use crate::lent::Buffers;
 use crate::listing;
@@ -12,10 +13,11 @@ use crate::log::{Log, OPERATIONS, PROGRAM, STATIONS};
 use crate::made::{self, Shape};
 use crate::messages;
 use crate::operations::{self as here, answer_line, costs, Costs, BARS, WORKSPACE};
+use crate::panels;
 use crate::peak::{Peak, Peaks};
 use crate::proved::{self, Reply};
+use crate::ranges::Ranges;
 use crate::sides::{Side, Sides, FIXED_CELLS};
-use crate::zero::Zeros;
 use std::fmt::Debug;
 
 /// What a seed gives: a log and a frame list, and the draws that follow.
@@ -46,19 +48,29 @@ fn drawn(d: &mut Draw) -> Vec<Vec<u8>> {
     fs
 }
 
+/// Frames without panels, large or not, with messages or without.
+fn plain(d: &mut Draw, sort: usize, sent: bool) -> Vec<Vec<u8>> {
+    match sort {
+        0 => large::frames(d),
+        2 if sent => messages::large_frames(d),
+        _ if sent => messages::frames(d),
+        _ if d.below(50) == 0 => ends::frames(d),
+        _ => drawn(d),
+    }
+}
+
 impl Case {
     pub fn new(seed: u64) -> Self {
         let mut draw = Draw(seed);
         let d = &mut draw;
-        // Whether the log is large, too long or neither, and whether it has messages, is drawn apart, so that others do not depend on it.
-        let (sort, sent) = (Draw(!seed).below(26), Draw(seed.rotate_left(32)).below(4) == 0);
-        let fs = match sort {
-            0 => large::frames(d),
-            2 if sent => messages::large_frames(d),
-            _ if sent => messages::frames(d),
-            _ if d.below(50) == 0 => ends::frames(d),
-            _ => drawn(d),
-        };
+        // Whether the log is large, too long or neither, and whether it has messages or panels, is drawn apart, so that others do not
+        // depend on it.
+        let (sort, panels) = (Draw(!seed).below(26), Draw(seed.rotate_left(16)).below(7) < 2);
+        let sent = Draw(seed.rotate_left(32)).below(4) < if panels { 2 } else { 1 };
+        let mut fs = plain(d, sort, sent);
+        if panels {
+            fs = panels::frames(d, fs);
+        }
         let (mut log, mut list) = (made::lines(&fs), made::list(&fs));
         let limits = if sort < 2 { OPERATIONS } else { PROGRAM };
         for (most, bytes) in [(limits.log, &mut log), (limits.list, &mut list)] {
@@ -83,43 +95,50 @@ enum Lends {
 use Lends::*;
 
 /// What was seen: calls, accepted logs, Holds' no and yes, answers that list no, one and several cuts, workspaces refused for one cell
-/// less than forecast and accepted with just these cells, each fault, peaks, sides of limits, ranges through zero, tokens 07, and by
-/// their stations the accepted logs of more events than the program takes.
+/// less than forecast and accepted with just these cells, each fault, without a header of kind 11 and with one, peaks, sides of limits,
+/// ends of ranges, tokens 07 and 08, and by their stations the accepted logs of more events than the program takes, and those with a header
+/// of kind 11.
 pub struct Counts {
     pub calls: usize,
     pub accepted: usize,
     pub holds: [usize; 2],
     pub answers: [usize; 3],
     pub limit: [usize; 2],
-    pub faults: [usize; KINDS],
+    pub faults: [[usize; KINDS]; 2],
     pub peaks: Peaks,
     pub sides: Sides,
-    pub zeros: Zeros,
+    pub ranges: Ranges,
     pub clears: Clears,
+    pub fields: Fields,
     pub large: [usize; STATIONS],
+    pub panels: [usize; STATIONS],
 }
 
 impl Counts {
     pub fn new() -> Self {
-        let (peaks, sides, zeros, clears) = (Peaks::default(), Sides::default(), Zeros::default(), Clears::default());
-        let (holds, answers, limit, faults, large) = ([0; 2], [0; 3], [0; 2], [0; KINDS], [0; STATIONS]);
-        Counts { calls: 0, accepted: 0, holds, answers, limit, faults, peaks, sides, zeros, clears, large }
+        let (peaks, sides, ranges) = (Peaks::default(), Sides::default(), Ranges::default());
+        let (clears, fields) = (Clears::default(), Fields::default());
+        let (holds, answers, limit, faults, large, panels) = ([0; 2], [0; 3], [0; 2], [[0; KINDS]; 2], [0; STATIONS], [0; STATIONS]);
+        Counts { calls: 0, accepted: 0, holds, answers, limit, faults, peaks, sides, ranges, clears, fields, large, panels }
     }
 
     fn meet_log(&mut self, log: &Log, bytes: usize) {
         let station = log.history.iter().map(|h| h.len() - 1).max().unwrap_or(0);
         self.accepted += 1;
-        self.large[log.stations() - 1] += (log.events > PROGRAM.events) as usize;
+        let large = log.events > PROGRAM.events;
+        self.large[log.stations() - 1] += large as usize;
+        self.panels[log.stations() - 1] += log.panels as usize;
+        let program = |figure: usize| if large { 0 } else { figure };
         self.peaks.meet(&[
             (Peak::Stations, log.stations()), (Peak::Events, log.events), (Peak::StationEvents, station),
             (Peak::Messages, log.messages.len()), (Peak::Questions, log.questions.len()), (Peak::LogBytes, bytes),
-            (Peak::ListBytes, log.list.len()),
+            (Peak::ListBytes, log.list.len()), (Peak::ProgramLogBytes, program(bytes)), (Peak::ProgramListBytes, program(log.list.len())),
         ]);
     }
 
     fn meet_question(&mut self, f: &[Token], [width, bars, held, cells, ceiling]: Costs, w: &Worker, listed: usize) {
         self.peaks.meet(&[
-            (Peak::Tokens, f.len()), (Peak::Atoms, formula::atoms(f)), (Peak::Width, width), (Peak::BarCount, bars),
+            (Peak::Tokens, f.len()), (Peak::Atoms, formula::atoms(f)[0]), (Peak::Width, width), (Peak::BarCount, bars),
             (Peak::Held, held), (Peak::Cells, cells), (Peak::Ceiling, ceiling), (Peak::Standing, w.most.standing),
             (Peak::Structures, w.most.structures), (Peak::Bars, w.most.bars), (Peak::RightBars, w.most.right),
             (Peak::StartRounds, w.most.rounds as usize), (Peak::Rounds, w.rounds as usize), (Peak::Listed, listed),
@@ -127,11 +146,11 @@ impl Counts {
         ]);
     }
 
-    /// Both replies are equal.
-    fn same<T: PartialEq + Debug>(&mut self, what: &str, proved: &Reply<T>, here: Result<T, Refusal>) {
+    /// Both replies are equal, to a log or frame list that has a header of kind 11 or not.
+    fn same<T: PartialEq + Debug>(&mut self, what: &str, panels: bool, proved: &Reply<T>, here: Result<T, Refusal>) {
         self.calls += 1;
         if let Err(Refusal(fault, _)) = here {
-            self.faults[fault as usize] += 1;
+            self.faults[panels as usize][fault as usize] += 1;
         }
         assert_eq!(*proved, here.map_err(|Refusal(fault, line)| (fault.number(), line)), "{what}: proved and here");
     }
@@ -162,9 +181,10 @@ fn foretold([width, bars, held, _, ceiling]: Costs, line: &[u8], w: &Worker) {
     assert!(met.iter().zip([width, bars, held, ceiling]).all(|(m, most)| *m <= most), "{met:?} above the forecast");
 }
 
-/// The calls on one log, with the cells forecast for its questions, and what is lent.
+/// The calls on one log, whether its first frame is of kind 11, the cells forecast for its questions, and what is lent.
 struct Calls<'a> {
     log: &'a [u8],
+    panels: bool,
     cells: Vec<usize>,
     draw: Draw,
     lent: &'a mut Buffers,
@@ -178,7 +198,7 @@ impl Calls<'_> {
         let reply = proved::read(self.log, out.part());
         let here = here::read(self.log, out.part_before());
         self.counts.sides.meet_read(self.log, out.size, &here);
-        self.counts.same("Read", &reply, here);
+        self.counts.same("Read", self.panels, &reply, here);
         out.same("Read's output");
     }
 
@@ -188,7 +208,7 @@ impl Calls<'_> {
         let reply = proved::write(list, out.part());
         let here = here::write(list, out.part_before());
         self.counts.sides.meet_write(list, out.size, &here);
-        self.counts.same("Write", &reply, here);
+        self.counts.same("Write", list.get(1) == Some(&0x11), &reply, here);
         out.same("Write's output");
     }
 
@@ -219,7 +239,7 @@ impl Calls<'_> {
 
     fn forecast(&mut self, q: usize) -> Option<Costs> {
         let reply = proved::forecast(self.log, q);
-        self.counts.same("Forecast", &reply, here::forecast(self.log, q));
+        self.counts.same("Forecast", self.panels, &reply, here::forecast(self.log, q));
         reply.ok()
     }
 
@@ -230,7 +250,7 @@ impl Calls<'_> {
         out.lend(&mut self.draw, lends != About);
         let reply = proved::answer(self.log, q, ws.part(), bs.part(), out.part());
         let here = here::answer(self.log, q, ws.size, bs.size, out.part_before());
-        self.counts.same("Answer", &reply, here);
+        self.counts.same("Answer", self.panels, &reply, here);
         out.same("Answer's output");
         self.check_room(q, reply.err());
         reply.ok().map(|n| {
@@ -246,7 +266,7 @@ impl Calls<'_> {
         let Buffers { ws, bs, .. } = &mut *self.lent;
         let reply = proved::holds(self.log, q, cut, ws.part(), bs.part());
         let here = here::holds(self.log, q, cut, ws.size, bs.size);
-        self.counts.same("Holds", &reply, here.map(usize::from));
+        self.counts.same("Holds", self.panels, &reply, here.map(usize::from));
         self.check_room(q, reply.err());
         reply.ok().map(|yes| {
             self.counts.holds[yes] += 1;
@@ -313,7 +333,7 @@ impl Calls<'_> {
 pub fn compare(case: Case, lent: &mut Buffers, counts: &mut Counts) {
     let Case { log: data, list, mut draw } = case;
     lent.fill(&mut draw);
-    let mut calls = Calls { log: &data, cells: vec![], draw, lent, counts };
+    let mut calls = Calls { log: &data, panels: data.starts_with(b"11"), cells: vec![], draw, lent, counts };
     calls.read();
     calls.write(&list);
     let Ok(log) = Log::read(OPERATIONS, &data) else { return calls.odd(3, 3) };
@@ -329,8 +349,10 @@ pub fn compare(case: Case, lent: &mut Buffers, counts: &mut Counts) {
         worker.basis(&mut Tokens(f), true);
         foretold(costs, &line, &worker);
         calls.counts.meet_question(f, costs, &worker, cuts_listed(&line));
-        calls.counts.zeros.meet(&log, &mut Tokens(f), true);
-        calls.counts.clears.meet(&log, f, &worker);
+        let atoms = placed(f);
+        atoms.iter().for_each(|p| calls.counts.ranges.meet(&log, p));
+        calls.counts.clears.meet(&log, &atoms, &worker);
+        calls.counts.fields.meet(&log, f, &atoms, &line);
         if listing::count(&log) <= 400 {
             calls.listed(&log, q, &line, worker.rounds);
         } else {

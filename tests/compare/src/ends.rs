@@ -156,7 +156,7 @@ fn longest(d: &mut Draw, s: Shape) -> Vec<u8> {
     [vec![0x30], q].concat()
 }
 
-/// The longest log that there is of so many events.
+/// The longest log that there is of so many events without messages and panels.
 pub fn full(d: &mut Draw, events: usize) -> Frames {
     let s = Shape { stations: 8, events, questions: 0, ranges: 0, step: d.pick(&[1, 255, 21845]), zero: 0 };
     let mut fs = made::frames(d, s);

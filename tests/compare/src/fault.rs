@@ -1,7 +1,8 @@
 //! Every fault that document 01 names.
 use Fault::*;
 
-/// The lowest digit aside, the refusal's number.
+/// The lowest digit aside, the refusal's number. "Other" is the other kind of header than the log's: a second header of that kind, or a
+/// length that goes with it. "Panel" is a token 08.
 #[derive(Clone, Copy, Debug)]
 #[repr(u16)]
 pub enum Fault {
@@ -15,6 +16,7 @@ pub enum Fault {
     UnknownKind = 0x40,
     NoHeader,
     SecondHeader,
+    OtherHeader,
     EventAfterQuestion,
     TooManyEvents,
     Question17,
@@ -23,9 +25,11 @@ pub enum Fault {
     TooManyMessages,
     EmptyLog,
     HeaderLength = 0x50,
+    OtherHeaderLength,
     NoStation,
     StationsOver8,
     EventLength = 0x60,
+    OtherEventLength,
     EventStation,
     OwnEntry = 0x70,
     EntryNotRead,
@@ -34,8 +38,11 @@ pub enum Fault {
     BytesAfterFormula,
     UnknownToken,
     FormulaStation,
+    PanelEnds,
+    PanelStation,
     TokensOver32 = 0x90,
     AtomsOver12,
+    PanelsOver12,
     WidthOver16,
     BarsOver16,
     NoSuchQuestion = 0xA0,
@@ -64,13 +71,20 @@ pub enum Fault {
 /// One more than the largest.
 pub const KINDS: usize = 0x110;
 
-pub const ALL: [Fault; 54] = [
-    LogTooLong, NoEndOfLine, OddDigits, NotADigit, LineUnder2, LineOver100, CheckByte, UnknownKind, NoHeader, SecondHeader,
+pub const ALL: [Fault; 60] = [
+    LogTooLong, NoEndOfLine, OddDigits, NotADigit, LineUnder2, LineOver100, CheckByte, UnknownKind, NoHeader, SecondHeader, OtherHeader,
     EventAfterQuestion, TooManyEvents, Question17, EventAfterMessage, MessageAfterQuestion, TooManyMessages, EmptyLog, HeaderLength,
-    NoStation, StationsOver8, EventLength, EventStation, OwnEntry, EntryNotRead, ClockAbove, FormulaEnds, BytesAfterFormula, UnknownToken,
-    FormulaStation, TokensOver32, AtomsOver12, WidthOver16, BarsOver16, NoSuchQuestion, Workspace, BarSpace, Output, CutLength,
-    NotConsistent, ListTooLong, LengthZero, LengthOver99, LengthPastEnd, MessageLength, SenderNotThere, ReceiverNotThere, SentZero,
-    SentNotThere, ReceivedNotThere, SentToSelf, SendingNotSeen, ClearUnderNot, ClearUnderAlways, ClearJoined,
+    OtherHeaderLength, NoStation, StationsOver8, EventLength, OtherEventLength, EventStation, OwnEntry, EntryNotRead, ClockAbove,
+    FormulaEnds, BytesAfterFormula, UnknownToken, FormulaStation, PanelEnds, PanelStation, TokensOver32, AtomsOver12, PanelsOver12,
+    WidthOver16, BarsOver16, NoSuchQuestion, Workspace, BarSpace, Output, CutLength, NotConsistent, ListTooLong, LengthZero, LengthOver99,
+    LengthPastEnd, MessageLength, SenderNotThere, ReceiverNotThere, SentZero, SentNotThere, ReceivedNotThere, SentToSelf, SendingNotSeen,
+    ClearUnderNot, ClearUnderAlways, ClearJoined,
+];
+
+/// Those that the kind of the header decides, and those of tokens 08.
+pub const OF_PANELS: [Fault; 11] = [
+    SecondHeader, OtherHeader, HeaderLength, OtherHeaderLength, NoStation, StationsOver8, EventLength, OtherEventLength, PanelEnds,
+    PanelStation, PanelsOver12,
 ];
 
 impl Fault {

@@ -1,9 +1,10 @@
 //! Formulas in prefix form, and how large they are under the sign each token is used in.
 use crate::fault::Fault;
+use crate::log::Field;
 
 #[derive(Clone, Copy)]
 pub enum Token {
-    Range { station: usize, lo: u16, hi: u16 },
+    Range { field: Field, station: usize, lo: u16, hi: u16 },
     /// Nothing is on the way from one station to another.
     Clear { sender: usize, receiver: usize },
     Not,
@@ -26,13 +27,17 @@ impl Tokens<'_> {
     }
 }
 
-fn range(operands: &[u8], stations: usize) -> Result<Token, Fault> {
-    let &[station, a, b, c, d] = operands else { return Err(Fault::FormulaEnds) };
+fn range(field: Field, operands: &[u8], stations: usize) -> Result<Token, Fault> {
+    let (ends, not_there) = match field {
+        Field::Value => (Fault::FormulaEnds, Fault::FormulaStation),
+        Field::Panel => (Fault::PanelEnds, Fault::PanelStation),
+    };
+    let &[station, a, b, c, d] = operands else { return Err(ends) };
     let (station, lo, hi) = (station as usize, u16::from_be_bytes([a, b]), u16::from_be_bytes([c, d]));
     if station >= stations {
-        return Err(Fault::FormulaStation);
+        return Err(not_there);
     }
-    Ok(Range { station, lo, hi })
+    Ok(Range { field, station, lo, hi })
 }
 
 fn clear(operands: &[u8], stations: usize) -> Result<Token, Fault> {
@@ -44,7 +49,7 @@ fn clear(operands: &[u8], stations: usize) -> Result<Token, Fault> {
     Ok(Clear { sender, receiver })
 }
 
-/// Whether a range holds a value. Where lo is above hi it goes through zero: from lo up, and up to hi.
+/// Whether a range holds a value or a panel. Where lo is above hi it goes through zero: from lo up, and up to hi.
 pub fn within(lo: u16, hi: u16, v: u16) -> bool {
     if lo <= hi {
         return lo <= v && v <= hi;
@@ -58,19 +63,20 @@ pub fn parse(mut q: &[u8], stations: usize) -> Result<Vec<Token>, Fault> {
     while missing > 0 {
         let (&byte, rest) = q.split_first().ok_or(Fault::FormulaEnds)?;
         let bytes = match byte {
-            1 => 5,
+            1 | 8 => 5,
             7 => 2,
             _ => 0,
         };
         let (operands, after) = rest.split_at(rest.len().min(bytes));
         let (token, parts) = match byte {
-            1 => (range(operands, stations)?, 0),
+            1 => (range(Field::Value, operands, stations)?, 0),
             2 => (Not, 1),
             3 => (And, 2),
             4 => (Or, 2),
             5 => (Possibly, 1),
             6 => (Always, 1),
             7 => (clear(operands, stations)?, 0),
+            8 => (range(Field::Panel, operands, stations)?, 0),
             _ => return Err(Fault::UnknownToken),
         };
         tokens.push(token);
@@ -91,7 +97,7 @@ pub struct Size {
     pub products: usize,
 }
 
-/// That of a range, and of a token 07.
+/// That of an atom: a range, of either field, or a token 07.
 const ONE: Size = Size { width: 1, bars: 0, most: 0, held: 1, products: 0 };
 
 /// Two operands joined to this width and bar count.
@@ -137,8 +143,43 @@ pub fn size(f: &mut Tokens, sign: bool) -> Result<Size, Fault> {
     Ok(s)
 }
 
-pub fn atoms(f: &[Token]) -> usize {
-    f.iter().filter(|t| matches!(t, Range { .. } | Clear { .. })).count()
+/// An atom of a formula, the sign that it is worked out under, and which of the signs "not", "and", "or", "possibly" and "always" it stands
+/// below.
+pub struct Placed {
+    pub atom: Token,
+    pub sign: bool,
+    pub under: [bool; 5],
+}
+
+/// The same as words.
+pub const UNDER: [&str; 5] = ["under not", "under and", "under or", "under possibly", "under always"];
+
+/// The atoms of a formula that stands below these signs.
+fn place(f: &mut Tokens, sign: bool, mut under: [bool; 5], out: &mut Vec<Placed>) {
+    let token = f.take();
+    let (at, operands, sign) = match token {
+        Range { .. } | Clear { .. } => return out.push(Placed { atom: token, sign, under }),
+        Not => (0, 1, !sign),
+        And => (1, 2, sign),
+        Or => (2, 2, sign),
+        Possibly => (3, 1, true),
+        Always => (4, 1, false),
+    };
+    under[at] = true;
+    (0..operands).for_each(|_| place(f, sign, under, out));
+}
+
+/// The atoms of a question, in their order.
+pub fn placed(f: &[Token]) -> Vec<Placed> {
+    let mut out = vec![];
+    place(&mut Tokens(f), true, [false; 5], &mut out);
+    out
+}
+
+/// How many atoms there are, and how many of them are tokens 08.
+pub fn atoms(f: &[Token]) -> [usize; 2] {
+    let panels = f.iter().filter(|t| matches!(t, Range { field: Field::Panel, .. })).count();
+    [f.iter().filter(|t| matches!(t, Range { .. } | Clear { .. })).count(), panels]
 }
 
 /// Every 07 is worked out as true. The fault of one that would be worked out as false goes by the token above it.
@@ -161,8 +202,9 @@ pub fn fits(f: &[Token]) -> Result<(), Fault> {
     if f.len() > 32 {
         return Err(Fault::TokensOver32);
     }
-    if atoms(f) > 12 {
-        return Err(Fault::AtomsOver12);
+    let [all, panels] = atoms(f);
+    if all > 12 {
+        return Err(if all - panels > 12 { Fault::AtomsOver12 } else { Fault::PanelsOver12 });
     }
     size(&mut Tokens(f), true)?;
     workable(&mut Tokens(f), true, Fault::ClearJoined)

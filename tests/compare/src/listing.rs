@@ -30,9 +30,9 @@ pub fn truth(log: &Log, cuts: &[Cut], f: &mut Tokens) -> Vec<bool> {
     let each = |p: &dyn Fn(usize) -> bool| (0..cuts.len()).map(p).collect::<Vec<bool>>();
     let above = |i: usize, p: &dyn Fn(usize) -> bool| (i..cuts.len()).any(|k| contained(&cuts[i], &cuts[k]) && p(k));
     let token = f.take();
-    if let Token::Range { station, lo, hi } = token {
-        let value = |i: usize| log.history[station][cuts[i][station] as usize].value;
-        return each(&|i| if lo > hi { !(hi + 1..lo).contains(&value(i)) } else { (lo..=hi).contains(&value(i)) });
+    if let Token::Range { field, station, lo, hi } = token {
+        let last = |i: usize| log.history[station][cuts[i][station] as usize].field(field);
+        return each(&|i| if lo > hi { !(hi + 1..lo).contains(&last(i)) } else { (lo..=hi).contains(&last(i)) });
     }
     if let Token::Clear { sender, receiver } = token {
         let between = log.messages.iter().filter(|m| (m.sender, m.receiver) == (sender, receiver)).collect::<Vec<_>>();

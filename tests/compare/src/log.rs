@@ -25,10 +25,38 @@ pub fn contained(c: &Cut, d: &Cut) -> bool {
     c.iter().zip(d).all(|(x, y)| x <= y)
 }
 
+/// What a range looks at: a station's value (01), or its panel (08).
+#[derive(Clone, Copy, Debug, PartialEq)]
+pub enum Field {
+    Value,
+    Panel,
+}
+
 #[derive(Clone, Copy)]
 pub struct Event {
     pub value: u16,
+    pub panel: u16,
     pub clock: Cut,
+}
+
+impl Event {
+    /// The value in the first two bytes, and the panel in the two behind it; where these are not there it is 0.
+    fn new(bytes: &[u8], clock: Cut) -> Self {
+        let word = |i: usize| bytes.get(i..i + 2).map_or(0, |b| u16::from_be_bytes([b[0], b[1]]));
+        Event { value: word(0), panel: word(2), clock }
+    }
+
+    pub fn field(&self, field: Field) -> u16 {
+        match field {
+            Field::Value => self.value,
+            Field::Panel => self.panel,
+        }
+    }
+}
+
+/// The bytes of an event's value and panel by the kind of the header, and with a header of the other kind.
+fn field_bytes(panels: bool) -> [usize; 2] {
+    if panels { [4, 2] } else { [2, 4] }
 }
 
 /// Sent by an event of one station and received by an event of another, by their numbers; 0 where it never came.
@@ -40,9 +68,12 @@ pub struct Message {
     pub received: u8,
 }
 
-/// Event 0 of a station is its initial value with the empty cut.
+/// Event 0 of a station is its initial value and panel with the empty cut.
+#[derive(Clone)]
 pub struct Log {
     limits: Limits,
+    /// The header is of kind 11.
+    pub panels: bool,
     pub history: Vec<Vec<Event>>,
     pub events: usize,
     pub messages: Vec<Message>,
@@ -53,7 +84,7 @@ pub struct Log {
 impl Log {
     /// A log of which nothing has been read.
     fn new(limits: Limits) -> Self {
-        Log { limits, history: vec![], events: 0, messages: vec![], questions: vec![], list: vec![] }
+        Log { limits, panels: false, history: vec![], events: 0, messages: vec![], questions: vec![], list: vec![] }
     }
 
     pub fn stations(&self) -> usize {
@@ -75,22 +106,23 @@ impl Log {
         if (0..bytes.len()).all(|j| self.below(j, c[j] as usize, &c) == Some(true)) { Ok(c) } else { Err(Fault::NotConsistent) }
     }
 
-    fn header(&mut self, f: &[u8]) -> Result<(), Fault> {
+    fn header(&mut self, panels: bool, f: &[u8]) -> Result<(), Fault> {
         if self.stations() > 0 {
-            return Err(Fault::SecondHeader);
+            return Err(if panels == self.panels { Fault::SecondHeader } else { Fault::OtherHeader });
         }
-        let (&n, values) = f.split_first().ok_or(Fault::HeaderLength)?;
-        if values.len() != 2 * n as usize {
-            return Err(Fault::HeaderLength);
+        let (&n, initial) = f.split_first().ok_or(Fault::HeaderLength)?;
+        let ([bytes, other], n) = (field_bytes(panels), n as usize);
+        if initial.len() != bytes * n {
+            return Err(if initial.len() == other * n { Fault::OtherHeaderLength } else { Fault::HeaderLength });
         }
         if n < 1 {
             return Err(Fault::NoStation);
         }
-        if n as usize > STATIONS {
+        if n > STATIONS {
             return Err(Fault::StationsOver8);
         }
-        let initial = |v: &[u8]| vec![Event { value: u16::from_be_bytes([v[0], v[1]]), clock: [0; 8] }];
-        self.history = values.chunks(2).map(initial).collect();
+        self.panels = panels;
+        self.history = initial.chunks(bytes).map(|b| vec![Event::new(b, [0; 8])]).collect();
         Ok(())
     }
 
@@ -108,15 +140,16 @@ impl Log {
         if self.events == self.limits.events {
             return Err(Fault::TooManyEvents);
         }
-        if f.len() != 3 + n {
-            return Err(Fault::EventLength);
+        let [bytes, other] = field_bytes(self.panels);
+        if f.len() != 1 + bytes + n {
+            return Err(if f.len() == 1 + other + n { Fault::OtherEventLength } else { Fault::EventLength });
         }
-        let s = f[0] as usize;
+        let (s, (fields, entries)) = (f[0] as usize, f[1..].split_at(bytes));
         if s >= n {
             return Err(Fault::EventStation);
         }
         let mut clock = [0; 8];
-        clock[..n].copy_from_slice(&f[3..]);
+        clock[..n].copy_from_slice(entries);
         if clock[s] as usize != self.history[s].len() {
             return Err(Fault::OwnEntry);
         }
@@ -126,7 +159,7 @@ impl Log {
                 return Err(Fault::ClockAbove);
             }
         }
-        self.history[s].push(Event { value: u16::from_be_bytes([f[1], f[2]]), clock });
+        self.history[s].push(Event::new(fields, clock));
         self.events += 1;
         Ok(())
     }
@@ -177,7 +210,7 @@ impl Log {
 
     fn admit(&mut self, f: &[u8]) -> Result<(), Fault> {
         match f[0] {
-            0x10 => self.header(&f[1..]),
+            0x10 | 0x11 => self.header(f[0] == 0x11, &f[1..]),
             0x20 => self.event(&f[1..]),
             0x25 => self.message(&f[1..]),
             0x30 => self.question(&f[1..]),

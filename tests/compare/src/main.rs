@@ -3,7 +3,7 @@
 //! Usage: compare [LOGS] [SEED]      the logs of seeds SEED, SEED + 1, ...
 //!        compare forecast FILE      compares nothing: what each question of a log can cost, and its answer
 use compare::check::{compare, Case, Counts};
-use compare::fault::ALL;
+use compare::fault::{Fault, ALL, OF_PANELS};
 use compare::forecasts;
 use compare::guard::when_touched;
 use compare::lent::Buffers;
@@ -29,7 +29,7 @@ fn asked(words: &[String]) -> Result<(u64, u64), String> {
         None => Ok(usual),
         Some(w) => w.parse().map_err(|_| format!("{w:?} is not a number from 0 to {}", u64::MAX)),
     };
-    let (logs, first) = (number(0, 32_000)?, number(1, 20261115)?);
+    let (logs, first) = (number(0, 45_000)?, number(1, 20261115)?);
     match words {
         [_, _, more, ..] => Err(format!("one word too many: {more:?}")),
         _ if logs == 0 => Err("0 logs compare nothing".to_string()),
@@ -38,9 +38,10 @@ fn asked(words: &[String]) -> Result<(u64, u64), String> {
     }
 }
 
-/// What was met too seldom for the run to say much: an outcome, a fault, an end of a range through zero or a way that a token 07 is met
-/// less than ten times in 4,000 logs, a peak or a number of stations of large logs less than once, a side of a limit less often than is
-/// wanted.
+/// What was met too seldom for the run to say much: an outcome, a fault, one of panels with a header of kind 11, a refusal with such a
+/// header, an end of a range or a way that a token 07 or 08 is met less than ten times in 4,000 logs, a fault of panels with a header of
+/// kind 10, a peak or a number of stations of large logs or of those with a header of kind 11 less than once, a side of a limit less often
+/// than is wanted.
 fn seldom(logs: u64, counts: &Counts) -> Vec<String> {
     let [no, yes] = counts.holds;
     let [none, one, several] = counts.answers;
@@ -50,33 +51,59 @@ fn seldom(logs: u64, counts: &Counts) -> Vec<String> {
         ("one cell less", one_less), ("just the cells", just),
     ];
     let outcomes = outcomes.into_iter().map(|(name, n)| (name.to_string(), n, 10));
-    let faults = ALL.iter().map(|f| (format!("{f:?}"), counts.faults[*f as usize], 10));
+    let [plain, panels] = &counts.faults;
+    let faults = ALL.iter().map(|f| (format!("{f:?}"), plain[*f as usize] + panels[*f as usize], 10));
+    let of_panels = OF_PANELS.iter().flat_map(|f| {
+        [(format!("{f:?} with header 10"), plain[*f as usize], 1), (format!("{f:?} with header 11"), panels[*f as usize], 10)]
+    });
+    let refusals = (1..).zip(refusals(panels)).map(|(number, n)| (format!("refusal {number} with header 11"), n, 10));
     let peaks = WANTED.iter().map(|(p, least)| (format!("{p:?} of {least}"), counts.peaks.of(*p).times, 1));
     let sides = sides::WANTED.iter().map(|(s, least)| (format!("{s:?}"), counts.sides.of(*s), *least));
-    let large = (1..).zip(counts.large).map(|(stations, n)| (format!("large of {stations} stations"), n, 1));
-    let zeros = counts.zeros.figures().map(|(name, n)| (format!("through zero {name}"), n, 10));
-    let clears = counts.clears.figures().map(|(name, n)| (format!("07 {name}"), n, 10));
-    let seen = outcomes.chain(faults).chain(peaks).chain(sides).chain(large).chain(zeros).chain(clears);
+    let stations = [("large", counts.large), ("header 11", counts.panels)].into_iter().flat_map(|(name, all)| {
+        (1..).zip(all).map(move |(stations, n)| (format!("{name} of {stations} stations"), n, 1))
+    });
+    let ranges = counts.ranges.figures().flat_map(|(sort, figures)| prefixed(sort, figures));
+    let tokens = [("07", counts.clears.figures()), ("08", counts.fields.figures()), ("08 told from", counts.fields.told())];
+    let tokens = tokens.into_iter().flat_map(|(name, figures)| prefixed(name, figures));
+    let seen = outcomes.chain(faults).chain(of_panels).chain(refusals).chain(peaks).chain(sides);
+    let seen = seen.chain(stations).chain(ranges).chain(tokens);
     seen.filter(|(_, n, least)| (*n as u64) < logs / 4000 * least).map(|(name, n, _)| format!("{name} {n}")).collect()
 }
 
+/// How often each refusal was met, from 1 on.
+fn refusals(faults: &[usize]) -> Vec<usize> {
+    faults.chunks(16).skip(1).map(|kinds| kinds.iter().sum()).collect()
+}
+
+/// Figures that have to come to ten in 4,000 logs, under one name.
+fn prefixed(name: &str, figures: Vec<(String, usize)>) -> impl Iterator<Item = (String, usize, u64)> + '_ {
+    figures.into_iter().map(move |(which, n)| (format!("{name} {which}"), n, 10))
+}
+
+/// Figures in one line.
+fn joined(figures: impl IntoIterator<Item = (String, usize)>) -> String {
+    figures.into_iter().map(|(name, n)| format!("{name} {n}")).collect::<Vec<String>>().join(", ")
+}
+
 fn report(logs: u64, counts: &Counts) {
-    let Counts { calls, accepted, holds, answers, limit, faults, peaks, sides, zeros, clears, large } = counts;
-    let refused: Vec<usize> = faults.chunks(16).map(|kinds| kinds.iter().sum()).collect();
+    let Counts { calls, accepted, holds, answers, limit, faults, peaks, sides, ranges, clears, fields, large, panels } = counts;
     let reached: Vec<String> = WANTED.iter().map(|(p, _)| format!("{p:?} {} ({})", peaks.of(*p).most, peaks.of(*p).times)).collect();
     println!("{logs} logs, {accepted} accepted, {calls} calls, all equal");
-    println!("Holds no and yes: {holds:?}; answers with no, one, several cuts: {answers:?}; refusals 1 to 16: {:?}", &refused[1..]);
+    println!("Holds no and yes: {holds:?}; answers with no, one, several cuts: {answers:?}");
+    let [plain, with] = faults.map(|faults| refusals(&faults));
+    println!("refusals 1 to 16 without header 11: {plain:?}; with it: {with:?}");
     println!("workspaces refused for one cell less than forecast, accepted with just these cells: {limit:?}");
     println!("peaks (and how often what is wanted): {}", reached.join(", "));
-    let met: Vec<String> = sides::WANTED.iter().map(|(s, _)| format!("{s:?} {}", sides.of(*s))).collect();
-    println!("sides of limits: {}", met.join(", "));
-    println!("accepted logs of more than {} events, by stations from 1: {large:?}", PROGRAM.events);
-    let tried: Vec<String> = zeros.figures().map(|(name, n)| format!("{name} {n}")).collect();
-    println!("ranges through zero, tried {}", tried.join(", "));
-    let by_fault: Vec<String> = ALL.iter().filter(|f| f.number() > 14).map(|f| format!("{f:?} {}", faults[*f as usize])).collect();
-    println!("refusals 15 and 16: {}", by_fault.join(", "));
-    let met: Vec<String> = clears.figures().map(|(name, n)| format!("{name} {n}")).collect();
-    println!("tokens 07: {}", met.join(", "));
+    println!("sides of limits: {}", joined(sides::WANTED.iter().map(|(s, _)| (format!("{s:?}"), sides.of(*s)))));
+    println!("accepted logs of more than {} events, by stations from 1: {large:?}; with header 11: {panels:?}", PROGRAM.events);
+    ranges.figures().for_each(|(sort, figures)| println!("{sort}, tried {}", joined(figures)));
+    let by_fault = |all: &[Fault], panels: usize| joined(all.iter().map(|f| (format!("{f:?}"), faults[panels][*f as usize])));
+    let late: Vec<Fault> = ALL.into_iter().filter(|f| f.number() > 14).collect();
+    println!("refusals 15 and 16 without header 11: {}; with it: {}", by_fault(&late, 0), by_fault(&late, 1));
+    println!("faults of panels without header 11: {}; with it: {}", by_fault(&OF_PANELS, 0), by_fault(&OF_PANELS, 1));
+    println!("tokens 07: {}", joined(clears.figures()));
+    println!("tokens 08: {}", joined(fields.figures()));
+    println!("answers that tell the panel from {}", joined(fields.told()));
     if logs < 4000 {
         println!("under 4000 logs: how often each was met is not judged");
     }

@@ -97,8 +97,8 @@ fn formula(d: &mut Draw, s: Shape, pairs: &[Pair], atoms: usize, sign: bool) -> 
     [before, &part].concat()
 }
 
-/// Atoms of both kinds joined by or.
-fn either(d: &mut Draw, s: Shape, atoms: usize) -> Vec<u8> {
+/// Tokens 01 and 07 joined by or.
+pub fn either(d: &mut Draw, s: Shape, atoms: usize) -> Vec<u8> {
     let pairs = [pair(d, s.stations)];
     let parts = (0..atoms).flat_map(|_| if d.below(2) == 0 { clear(d, s.stations, &pairs) } else { made::range(d, s) });
     [vec![4; atoms - 1], parts.collect()].concat()
@@ -229,8 +229,8 @@ fn chain(d: &mut Draw, length: usize) -> Frames {
     fs
 }
 
-/// The longest log that there is of so many events.
-fn full(d: &mut Draw, events: usize) -> Frames {
+/// The longest log that there is of so many events without panels.
+pub fn full(d: &mut Draw, events: usize) -> Frames {
     let (mut fs, pairs) = (ends::full(d, events), [pair(d, STATIONS)]);
     let all = messages(d, &clocks(&fs, STATIONS), &pairs, MOST);
     fs.splice(1 + events..1 + events, all);

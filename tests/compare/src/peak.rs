@@ -1,5 +1,5 @@
 //! How far the made-up logs reach: figures of accepted logs and questions, beside what each has to come to.
-use crate::log::{OPERATIONS, QUESTIONS, STATIONS};
+use crate::log::{OPERATIONS, PROGRAM, QUESTIONS, STATIONS};
 use crate::operations::{HELD, WORKSPACE};
 use Peak::*;
 
@@ -12,6 +12,8 @@ pub enum Peak {
     Questions,
     LogBytes,
     ListBytes,
+    ProgramLogBytes,
+    ProgramListBytes,
     Tokens,
     Atoms,
     Width,
@@ -32,19 +34,27 @@ pub enum Peak {
 const EVENTS: usize = OPERATIONS.events;
 const MESSAGES: usize = OPERATIONS.messages;
 
-/// What each has to come to: the operations' limits and what follows from them, and rounds that pass two bytes.
-/// A frame of k bytes is k + 1 of the list and, with its check byte and 0A, 2 * k + 3 of the log; k is 18 for a header of 8 stations and 12
-/// for their events, 5 for a message, and 93 for the longest question, 12 ranges and 20 tokens more.
+/// The bytes of the longest log and frame list of so many events. A frame of k bytes is k + 1 of the list and, with its check byte and 0A,
+/// 2 * k + 3 of the log; k is 34 for a header of kind 11 of 8 stations and 14 for their events, 5 for a message, and 93 for the longest
+/// question, 12 ranges and 20 tokens more.
+const fn bytes(events: usize) -> [usize; 2] {
+    [71 + 31 * events + 13 * MESSAGES + 189 * QUESTIONS, 35 + 15 * events + 6 * MESSAGES + 94 * QUESTIONS]
+}
+
+const BYTES: [usize; 2] = bytes(EVENTS);
+const PROGRAM_BYTES: [usize; 2] = bytes(PROGRAM.events);
+
+/// What each has to come to: the operations' limits and what follows from them, and rounds that pass two bytes. The bytes of the program
+/// are those of a log of no more events than it takes.
 /// Structures held come to 36, by the forecast and at a time in the basis. The ceiling is highest where both widths, multiplied and added
 /// up over the signs joined as "and", are 92: four two-way ors take 4 + 8 + 16, four ranges more 16 each.
 /// A start's first round may add one event, and so may the last but one; the last adds none, and each other adds two or more.
 /// A token 07 may take a pass for each message.
-pub const WANTED: [(Peak, usize); 22] = [
-    (Stations, STATIONS), (Events, EVENTS), (StationEvents, EVENTS), (Messages, MESSAGES), (Questions, QUESTIONS),
-    (LogBytes, 39 + 27 * EVENTS + 13 * MESSAGES + 189 * QUESTIONS), (ListBytes, 19 + 13 * EVENTS + 6 * MESSAGES + 94 * QUESTIONS),
-    (Tokens, 32), (Atoms, 12), (Width, 16), (BarCount, 16), (Held, HELD), (Cells, WORKSPACE),
-    (Ceiling, 92 * (EVENTS + 1) * (EVENTS + 1)), (Standing, HELD), (Structures, 16), (Bars, 16), (RightBars, 16),
-    (StartRounds, EVENTS / 2 + 2), (Rounds, 65_536), (Listed, 16), (Passes, MESSAGES),
+pub const WANTED: [(Peak, usize); 24] = [
+    (Stations, STATIONS), (Events, EVENTS), (StationEvents, EVENTS), (Messages, MESSAGES), (Questions, QUESTIONS), (LogBytes, BYTES[0]),
+    (ListBytes, BYTES[1]), (ProgramLogBytes, PROGRAM_BYTES[0]), (ProgramListBytes, PROGRAM_BYTES[1]), (Tokens, 32), (Atoms, 12),
+    (Width, 16), (BarCount, 16), (Held, HELD), (Cells, WORKSPACE), (Ceiling, 92 * (EVENTS + 1) * (EVENTS + 1)), (Standing, HELD),
+    (Structures, 16), (Bars, 16), (RightBars, 16), (StartRounds, EVENTS / 2 + 2), (Rounds, 65_536), (Listed, 16), (Passes, MESSAGES),
 ];
 
 /// The largest figure met, and how often one met what is wanted.

@@ -24,13 +24,13 @@ lay-starts-requires c κs =
     let s = c .before .before .before .before .before in
     (shaped-here (c .before), (s .pre .0 .2, s .pre .0 .3))
 
-lay-values-requires : tie.Need-lay-values-requires
-lay-values-requires c κs =
+lay-reports-requires : tie.Need-lay-reports-requires
+lay-reports-requires c κs =
     let s = c .before .before .before .before .before .before .before .before .before in
     (shaped-here (c .before .before .before .before .before), (s .pre .0 .2, s .pre .0 .4))
 
 lay-messages-requires : tie.Need-lay-messages-requires
-lay-messages-requires c κs = let s = c .before .before .before .before .before .before .before .before .before .before .before .before .before in (s .pre .1 .3, s .pre .0 .2, omega (arith, s .pre .0 .4, c .before .before .before .lay-values .kept))
+lay-messages-requires c κs = let s = c .before .before .before .before .before .before .before .before .before .before .before .before .before in (s .pre .1 .3, s .pre .0 .2, omega (arith, s .pre .0 .4, c .before .before .before .lay-reports .kept))
 
 same-length : tie.Need-same-length
 same-length c = search needs
@@ -49,7 +49,7 @@ returns c =
       refl,
       λ K g. (
         laid g fit few (s .pre .0 .1) (s .pre .0 .2) (a .e) (o .result) (s .pre .0 .0) (s .pre .1 .1) (o .ensures) _ (omega (arith, s .pre .0 .3, c .before .before .before .before .before .before .before .before .before .before .lay-starts .kept)) (c .before .before .before .before .before .before .before .before .before .before .lay-starts .ensures),
-        faced g fit few (s .pre .0 .1) (s .pre .0 .2) (a .e) (o .result) (s .pre .0 .0) (s .pre .1 .1) (o .ensures) _ _ (omega (arith, s .pre .0 .4, c .before .before .before .before .before .before .lay-values .kept)) (c .before .before .lay-messages .kept .1 .1 .0) (s .pre .1 .3) (c .before .before .before .before .before .before .lay-values .ensures) (c .before .before .lay-messages .ensures),
+        faced g fit few (s .pre .0 .1) (s .pre .0 .2) (a .e) (o .result) (s .pre .0 .0) (s .pre .1 .1) (o .ensures) _ _ (omega (arith, s .pre .0 .4, c .before .before .before .before .before .before .lay-reports .kept)) (c .before .before .lay-messages .kept .1 .1 .0) (s .pre .1 .3) (c .before .before .before .before .before .before .lay-reports .ensures) (c .before .before .lay-messages .ensures),
       ),
     )
 
@@ -59,7 +59,7 @@ lay-spec =
     (tie.spec
     offsets-requires
     lay-starts-requires
-    lay-values-requires
+    lay-reports-requires
     lay-messages-requires
     same-length
     same-length-2

@@ -5,7 +5,7 @@ use Prim.Native.Nat.{_+_, _*_, _≤_, _-_}
 use native.Mathlib.Omega.{arith}
 use lib.ListN.{length, take}
 use lib.Seq.{take-take}
-use Rattle.model.specs.Limits.{limits, startsSize}
+use Rattle.model.specs.Limits.{storedReport, limits, startsSize}
 use Rattle.model.specs.Lists.{total}
 use Rattle.layout.specs.Rows.{startsIn}
 use Rattle.offsets.proofs.Totals.{sum-few}
@@ -27,7 +27,7 @@ loop-holds : tie.Need-loop-holds Inv-loop μ-loop
 loop-holds c =
     let s = c .before .before .before .before .before .before .before .before in
     let a = s .args in
-    (omega arith, refl, starts-first (a .store .now) (a .x .counts) (a .starts .now) (c .before .before .copy .last .0) (a .x .n) (copied (a .starts .now) (c .before .before .copy .last .0) (a .store .now) 0 2 (a .x .n) (omega (arith, s .pre .0 .few-stations, s .pre .1)) (omega (arith, s .pre .0 .few-stations, s .pre .1)) (c .before .before .copy .ensures)))
+    (omega arith, refl, starts-first (a .store .now) (a .x .counts) (a .starts .now) (c .before .before .copy .last .0) (a .x .n) (copied (a .starts .now) (c .before .before .copy .last .0) (a .store .now) 0 storedReport (a .x .n) (omega (arith, s .pre .0 .few-stations, s .pre .1)) (omega (arith, s .pre .0 .few-stations, s .pre .1)) (c .before .before .copy .ensures)))
 
 array-read-wide : tie.Need-array-read-wide Inv-loop μ-loop
 array-read-wide c = search needs

@@ -6,6 +6,7 @@ use Prim.Native.Nat.{_+_, _*_, _≤_, _-_}
 use native.Mathlib.Omega.{arith}
 use native.Mathlib.Nat.{zero-mul}
 use lib.ListN.{length, take}
+use Rattle.model.specs.Limits.{storedReport}
 use Rattle.layout.specs.Rows.{inTurn, clocksIn}
 use Rattle.structure.proofs.Places.{next-fits}
 use Rattle.layout.proofs.Grown.{none-yet, copied, clock-more}
@@ -59,7 +60,7 @@ loop-again c =
     let l = c .before .before .before .before .before .before .loop in
     let d = c .before .before .copy .last .0 in
     let f = fits-here (c .before .before .before) in
-    (omega arith, c .before .before .copy .kept .0 ∙ l .inv .1, clock-more (a .starts .now) (l .starts) (a .at) (a .store .now) d (a .n) (a .j) (l .k) (c .before .before .before .before .slot .result) (c .before .before .before .before .slot .ensures .0) (l .inv .2) (copied (l .starts) d (a .store .now) (a .at + l .k * a .n) (c .before .before .before .before .slot .result + 2) (a .n) f (omega arith) (c .before .before .copy .ensures)))
+    (omega arith, c .before .before .copy .kept .0 ∙ l .inv .1, clock-more (a .starts .now) (l .starts) (a .at) (a .store .now) d (a .n) (a .j) (l .k) (c .before .before .before .before .slot .result) (c .before .before .before .before .slot .ensures .0) (l .inv .2) (copied (l .starts) d (a .store .now) (a .at + l .k * a .n) (c .before .before .before .before .slot .result + storedReport) (a .n) f (omega arith) (c .before .before .copy .ensures)))
 
 same-length : tie.Need-same-length Inv-loop μ-loop
 same-length c = search needs

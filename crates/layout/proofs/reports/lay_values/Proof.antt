@@ -9,14 +9,14 @@ use Rattle.model.specs.Lists.{sum, total}
 use Rattle.layout.specs.Rows.{inTurn, valuesIn}
 use Rattle.offsets.proofs.Totals.{sum-few}
 use Rattle.layout.proofs.Grown.{values-more}
-use Rattle.layout.proofs.values.lay_values.Statement.{statement}
-use Rattle.layout.proofs.values.lay_values.Tie as tie
+use Rattle.layout.proofs.reports.lay_values.Statement.{statement}
+use Rattle.layout.proofs.reports.lay_values.Tie as tie
 
 abbrev Inv-loop : tie.InvT-loop
-Inv-loop store values₀ n counts offs j₀ values j = (j ≤ n) × (length values ≡ length values₀) × (take (total (take j (take n counts)) + j) values ≡ valuesIn store counts j)
+Inv-loop store b values₀ n counts offs j₀ values j = (j ≤ n) × (length values ≡ length values₀) × (take (total (take j (take n counts)) + j) values ≡ valuesIn b store counts j)
 
 abbrev μ-loop : tie.MeasureT-loop
-μ-loop store values₀ n counts offs j₀ values j = n - j
+μ-loop store b values₀ n counts offs j₀ values j = n - j
 
 loop-holds : tie.Need-loop-holds Inv-loop μ-loop
 unfolding sum valuesIn inTurn
@@ -53,7 +53,7 @@ station-values-requires c κs =
     let f = p .0 .few-events in
     let t = p .0 .events-are in
     let g = p .0 .few-stations in
-    (omega arith, omega arith, p .1 .0, omega arith)
+    (p .1 .0, omega arith, omega arith, p .1 .1, omega arith)
 
 add-j : tie.Need-add-j Inv-loop μ-loop
 add-j c = search needs
@@ -67,10 +67,10 @@ loop-again c =
     let l = c .before .before .before .before .before .before .before .loop in
     let h = c .before .before .before .before .before .before .loop-test .taken in
     let o = c .before .before .before .before .before .before .before .before .before .before .before .before .pre .0 .offs-are (l .j) h in
-    let d = c .before .before .station-values .last .1 .1 .1 .0 in (
+    let d = c .before .before .station-values .last .1 .1 .1 .1 .0 in (
       omega arith,
-      c .before .before .station-values .kept .1 .1 .1 .0 ∙ l .inv .1,
-      values-more (a .store .now) (a .x .counts) (l .values) d (a .x .n) (l .j) (c .before .before .before .before .before .wide .result) (c .before .before .before .before .wide2 .result) h (c .before .before .before .before .before .wide .ensures .0) (c .before .before .before .before .wide2 .ensures .0 ∙ o) (l .inv .2) (c .before .before .station-values .ensures),
+      c .before .before .station-values .kept .1 .1 .1 .1 .0 ∙ l .inv .1,
+      values-more (a .store .now) (a .x .counts) (l .values) d (a .x .n) (l .j) (c .before .before .before .before .before .wide .result) (c .before .before .before .before .wide2 .result) h (c .before .before .before .before .before .wide .ensures .0) (c .before .before .before .before .wide2 .ensures .0 ∙ o) (a .b) (l .inv .2) (c .before .before .station-values .ensures),
     )
 
 same-length : tie.Need-same-length Inv-loop μ-loop

@@ -7,14 +7,14 @@ use native.Mathlib.Omega.{arith}
 use lib.ListN.{length, take, length-set}
 use Rattle.layout.specs.Rows.{inTurn, valuesOf}
 use Rattle.layout.proofs.Grown.{none-yet, value-more}
-use Rattle.layout.proofs.values.station_values.Statement.{statement}
-use Rattle.layout.proofs.values.station_values.Tie as tie
+use Rattle.layout.proofs.reports.station_values.Statement.{statement}
+use Rattle.layout.proofs.reports.station_values.Tie as tie
 
 abbrev Inv-loop : tie.InvT-loop
-Inv-loop store j m values₀ at k₀ values k = (k ≤ m) × (length values ≡ length values₀) × (take (at + k) values ≡ take at values₀ ++ valuesOf store j k)
+Inv-loop store b j m values₀ at k₀ values k = (k ≤ m) × (length values ≡ length values₀) × (take (at + k) values ≡ take at values₀ ++ valuesOf b store j k)
 
 abbrev μ-loop : tie.MeasureT-loop
-μ-loop store j m values₀ at k₀ values k = m - k
+μ-loop store b j m values₀ at k₀ values k = m - k
 
 loop-holds : tie.Need-loop-holds Inv-loop μ-loop
 unfolding valuesOf inTurn
@@ -22,6 +22,9 @@ loop-holds c = (omega arith, refl, none-yet (c .before .before .args .values .no
 
 slot-requires : tie.Need-slot-requires Inv-loop μ-loop
 slot-requires c κs = search needs
+
+add-word : tie.Need-add-word Inv-loop μ-loop
+add-word c = search needs
 
 word-requires : tie.Need-word-requires Inv-loop μ-loop
 word-requires c κs = search needs
@@ -45,8 +48,8 @@ loop-again : tie.Need-loop-again Inv-loop μ-loop
 loop-again c =
     let a = c .before .before .before .before .before .before .args in
     let l = c .before .before .before .loop in
-    let b : a .at + l .k < length (l .values) = omega arith in
-    (omega arith, simp length-set (l .inv .1), value-more (a .values .now) (l .values) (a .at) (a .store .now) (a .j) (l .k) (c .before .slot .result) (c .word .result) (c .before .slot .ensures .0) (c .word .ensures) b (l .inv .2))
+    let h : a .at + l .k < length (l .values) = omega arith in
+    (omega arith, simp length-set (l .inv .1), value-more (a .values .now) (l .values) (a .at) (a .b) (a .store .now) (a .j) (l .k) (c .before .slot .result) (c .word .result) (c .before .slot .ensures .0) (c .word .ensures) h (l .inv .2))
 
 same-length : tie.Need-same-length Inv-loop μ-loop
 same-length c = search needs
@@ -64,6 +67,7 @@ station-values-spec =
     μ-loop
     loop-holds
     slot-requires
+    add-word
     word-requires
     add-values
     mul-values
