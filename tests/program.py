@@ -12,6 +12,7 @@ import subprocess
 import sys
 import tempfile
 import time
+from concurrent.futures import ThreadPoolExecutor
 
 from bases import answered
 from bench_cases import (ALL, BENCH, BY_HAND, CONVEYORS, HEAD, HEADER, MESSAGES_65, OUTLINES, PANELS_BY_HAND, RECEIVED, WIDE18, ZERO, by_hand,
@@ -24,6 +25,7 @@ from read_write import FRAMES, LONGEST, full_log
 ROOT = pathlib.Path(__file__).resolve().parent.parent
 MOMENTS = ROOT / "target" / "bin" / "moments"
 SHORT, PAUSE, LIMIT = 100, 0.05, 60
+AT_ONCE = 8  # files that are tried at a time: most of a run is waiting between two writes
 
 
 def refusal(number, line):
@@ -276,21 +278,27 @@ def at_limits(data):
         yield tokens(f), len(atoms(f)), max(map(max, seen))
 
 
+def tried(name, data, by_hand):
+    """What is due for a file, and what came of it in each way."""
+    due = printed(data, answered)
+    if by_hand not in (None, due):
+        sys.exit(f"{name}: {by_hand} by hand, {due} by the listing")
+    return name, due, [*ways(data)]
+
+
 def main():
     if not MOMENTS.exists():
         sys.exit("target/bin/moments is not there: run rt check moments")
     if {at for data in (at_every_limit(), at_every_limit(64), at_every_limit(64, True)) for at in at_limits(data)} != {(32, 12, 16)}:
         sys.exit("a question is not at every limit")
     cases = wrong = 0
-    for name, data, by_hand in files():
-        due = printed(data, answered)
-        if by_hand not in (None, due):
-            sys.exit(f"{name}: {by_hand} by hand, {due} by the listing")
-        for way, run in ways(data):
-            cases += 1
-            if (run.stdout, run.stderr, run.returncode) != (due, b"", 0):
-                wrong += 1
-                print(f"{name}, {way}: {due} is due\n  but there is {run.stdout}, {run.stderr}, exit code {run.returncode}")
+    with ThreadPoolExecutor(AT_ONCE) as pool:
+        for name, due, runs in pool.map(lambda file: tried(*file), files()):
+            for way, run in runs:
+                cases += 1
+                if (run.stdout, run.stderr, run.returncode) != (due, b"", 0):
+                    wrong += 1
+                    print(f"{name}, {way}: {due} is due\n  but there is {run.stdout}, {run.stderr}, exit code {run.returncode}")
     print(f"program: {cases} runs, {wrong} wrong")
     sys.exit(wrong > 0)
 
