@@ -1,22 +1,26 @@
 #!/usr/bin/env python3
 """Tries wrong rules in the independent implementation, and reports how many logs of the corpus tell each apart.
 
-Usage: mutants.py          from the repository's root; exit code 1 if fewer than ten logs tell a rule apart
-       mutants.py --soon   the same, but a rule is tried on no more logs once thirty have told it apart
+Usage: mutants.py      from the repository's root; exit code 1 if fewer than ten logs tell a rule apart
 """
 import pathlib
+import re
 import subprocess
 import sys
 import tempfile
+from itertools import pairwise
 
 from frames import parted
 
 LEAST = 10
-ENOUGH, SHARES = 30, 24  # for --soon: a rule is tried on one share of the logs after another, each log of a share so many behind the one before
 CASES, SOURCE = pathlib.Path("crates/cases"), pathlib.Path("tests/compare/src")
-PARTS = ["fault", "formula", "log", "basis", "operations"]  # each uses those before it; formula and log use each other
+PARTS = ["fault", "formula", "log", "basis", "operations"]
 
-# A wrong rule, and the texts that it puts in place of others.
+# What is edited often: the limits.
+EVENTS = "if self.events == self.limits.events {"
+MESSAGES = "if self.messages.len() == self.limits.messages {"
+
+# A wrong rule, and the texts in bodies of functions that it puts in place of others.
 RULES = {
     "one round a start": {"            c = d;\n": "            return (d, rounds);\n"},
     "right set first": {"self.raise(left, &c)": "self.raise(right, &c)", "self.raise(right, &d)": "self.raise(left, &d)"},
@@ -50,7 +54,10 @@ RULES = {
     "lo one above hi refused": {"if station >= stations {": "if station >= stations || lo > hi && lo - hi == 1 {"},
     "lo equal to hi refused": {"if station >= stations {": "if station >= stations || lo == hi {"},
     "bytes after the formula": {"if q.is_empty() { Ok(tokens)": "if true { Ok(tokens)"},
-    "line of 101 bytes": {"bytes: &'a mut [u8; 100]": "bytes: &'a mut [u8; 101]", "(Log::new(limits), [0; 100])": "(Log::new(limits), [0; 101])", "digits.len() > 200": "digits.len() > 202"},
+    "line of 101 bytes": {
+        "digits.len() > 200": "digits.len() > 202",
+        "    if sum == 0 {": "    if let [_, _, ..] = digits[digits.len().min(200)..] {\n        sum = sum.wrapping_add(digit(digits[200])? * 16 + digit(digits[201])?);\n    }\n    if sum == 0 {",
+    },
     "line one too low": {"log.admit(f)).map_err(|fault| Refusal(fault, i as u32 + 1))?": "log.admit(f)).map_err(|fault| Refusal(fault, i as u32))?"},
     "width of and adds": {"joined(l, r, l.width * r.width, l.bars + r.bars)": "joined(l, r, l.width + r.width, l.bars + r.bars)"},
     "width 17 accepted": {"if s.width > 16 {": "if s.width > 17 {"},
@@ -86,9 +93,9 @@ RULES = {
     "just the cells refused": {"if workspace < cells {": "if workspace <= cells {"},
     "one cell less accepted": {"if workspace < cells {": "if workspace + 1 < cells {"},
     "program with the operations' limits": {"Log::read(PROGRAM, data)": "Log::read(OPERATIONS, data)"},
-    "operations with the program's events": {"Limits { events: 254,": "Limits { events: 127,"},
-    "255th event accepted": {"Limits { events: 254,": "Limits { events: 255,"},
-    "254th event refused": {"Limits { events: 254,": "Limits { events: 253,"},
+    "operations with the program's events": {EVENTS: "if self.events == 127 {"},
+    "255th event accepted": {EVENTS: "if self.events == if self.limits.events == 254 { 255 } else { 127 } {"},
+    "254th event refused": {EVENTS: "if self.events == self.limits.events.min(253) {"},
     "count of 254 taken for none": {
         "self.rows[0][0] == 255": "self.rows[0][0] >= 254",
         "r[0] != 255": "r[0] < 254",
@@ -133,7 +140,7 @@ RULES = {
     "receiver of 07 not there": {"if sender.max(receiver) >= stations {": "if sender >= stations {"},
     "65th message accepted": {"if self.messages.len() == self.limits.messages {": "if self.messages.len() == self.limits.messages + 1 {"},
     "64th message refused": {"if self.messages.len() == self.limits.messages {": "if self.messages.len() + 1 == self.limits.messages {"},
-    "program of 63 messages": {"events: 127, messages: 64,": "events: 127, messages: 63,"},
+    "program of 63 messages": {MESSAGES: "if self.messages.len() == self.limits.messages - (self.limits.events == 127) as usize {"},
     "65th message at fault as 15": {
         "        if self.messages.len() == self.limits.messages {\n            return Err(Fault::TooManyMessages);\n        }\n": "",
         "        self.messages.push(m);\n": "        if self.messages.len() == self.limits.messages {\n            return Err(Fault::TooManyMessages);\n        }\n        self.messages.push(m);\n",
@@ -240,7 +247,7 @@ RULES = {
 # What a case of the corpus prints: what the program does, and of each question its forecast, and what Answer comes to, lent one cell less
 # than that and lent just these cells: a refusal, or a line, which is the program's where that takes the log.
 TOLD = """
-pub fn told(data: &[u8]) -> Vec<u8> {
+fn told(data: &[u8]) -> Vec<u8> {
     use fault::{Fault, Refusal};
     use operations::*;
     let refused = |Refusal(fault, line): Refusal, kept: &str| format!(" refused {} {line}{kept}\\n", fault.number()).into_bytes();
@@ -268,15 +275,20 @@ pub fn told(data: &[u8]) -> Vec<u8> {
 # Tells of the logs of the corpus one by one, by the rule of the number given: a line with a full stop closes each but the last.
 MAIN = """
 use std::io::{Read, Write};
+use std::sync::atomic::{AtomicUsize, Ordering::Relaxed};
+static RULE: AtomicUsize = AtomicUsize::new(0);
+fn rule() -> usize {
+    RULE.load(Relaxed)
+}
 fn main() {
-    let rule: usize = std::env::args().nth(1).unwrap().parse().unwrap();
+    RULE.store(std::env::args().nth(1).unwrap().parse().unwrap(), Relaxed);
     let mut data = Vec::new();
     std::io::stdin().read_to_end(&mut data).unwrap();
     std::panic::set_hook(Box::new(|_| {}));
     let (mut log, mut out) = (Vec::new(), Vec::new());
     for line in data.split_inclusive(|&b| b == b'\\n').chain([&b".\\n"[..]]) {
         if line == b".\\n" {
-            out.extend(std::panic::catch_unwind(|| TOLD[rule](&log)).unwrap_or(b"panicked\\n".to_vec()));
+            out.extend(std::panic::catch_unwind(|| told(&log)).unwrap_or(b"panicked\\n".to_vec()));
             out.extend(b".\\n");
             log.clear();
         } else {
@@ -287,35 +299,48 @@ fn main() {
 }
 """
 
+# A function: the line that closes it is indented as its first is.
+FUNCTION = re.compile(r"^( *)(?:pub )?fn [^{]*\{\n(?P<body>.*?)^\1\}$", re.M | re.S)
 
-def module(folder, i, edits):
-    """Writes the implementation with these edits as module m{i}, which takes the parts from m0 that come before all that is edited or uses it."""
-    texts = {part: (SOURCE / f"{part}.rs").read_text() for part in PARTS}
-    own = len(PARTS) if i else 0
+
+def pieces(text):
+    """A text cut before and behind the body of each of its functions: every second piece is a body."""
+    cuts = [0, *(at for m in FUNCTION.finditer(text) for at in m.span("body")), len(text)]
+    return [text[a:b] for a, b in pairwise(cuts)]
+
+
+def edited(right, edits):
+    """The bodies that a rule changes, by part and place."""
+    wrong = {}
     for old, new in edits.items():
-        places = [k for k, part in enumerate(PARTS) for _ in range(texts[part].count(old))]
-        if len(places) != 1:
-            sys.exit(f"not once there: {old!r}")
-        own = min(own, places[0])
-        texts[PARTS[places[0]]] = texts[PARTS[places[0]]].replace(old, new)
-    while any(f"crate::{part}::" in texts[before] for before in PARTS[:own] for part in PARTS[own:]):
-        own -= 1
-    (folder / f"m{i}").mkdir()
-    for part in PARTS[own:]:
-        (folder / f"m{i}" / f"{part}.rs").write_text(texts[part].replace("crate::", f"crate::m{i}::"))
-    shared = "".join(f"pub use crate::m0::{part};\n" for part in PARTS[:own])
-    (folder / f"m{i}.rs").write_text(shared + "".join(f"pub mod {part};\n" for part in PARTS[own:]) + TOLD)
+        now = right | wrong
+        places = [at for at, piece in now.items() for _ in range(piece.count(old))]
+        if [k % 2 for _, k in places] != [1]:
+            sys.exit(f"not once in a function's body: {old!r}")
+        wrong[places[0]] = now[places[0]].replace(old, new)
+    return wrong
+
+
+def switched(right, bodies):
+    """A piece with the bodies that rules put in its place, by their numbers."""
+    if not bodies:
+        return right
+    return "match crate::rule() {\n" + "".join(f"{i} => {{\n{body}}}\n" for i, body in bodies) + f"_ => {{\n{right}}}\n}}\n"
 
 
 def build(folder):
-    """One program with the implementation as it stands, m0, and with each wrong rule."""
-    for i, edits in enumerate([{}, *RULES.values()]):
-        module(folder, i, edits)
-    all_of = range(len(RULES) + 1)
-    told = ", ".join(f"m{i}::told" for i in all_of)
-    table = f"static TOLD: [fn(&[u8]) -> Vec<u8>; {len(all_of)}] = [{told}];\n"
-    (folder / "main.rs").write_text("".join(f"mod m{i};\n" for i in all_of) + table + MAIN)
-    subprocess.run(["rustc", "--edition", "2021", "-C", "opt-level=1", "-A", "warnings", "main.rs"], cwd=folder, check=True)
+    """One program for the implementation as it stands, 0, and for all rules: a function has a body more for each rule that changes it, so that
+    all else is compiled but once."""
+    right = {(part, k): piece for part in PARTS for k, piece in enumerate(pieces((SOURCE / f"{part}.rs").read_text()))}
+    wrong = [(i, edited(right, edits)) for i, edits in enumerate(RULES.values(), 1)]
+    texts = dict.fromkeys(PARTS, "")
+    for at, piece in right.items():
+        texts[at[0]] += switched(piece, [(i, bodies[at]) for i, bodies in wrong if at in bodies])
+    for part, text in texts.items():
+        (folder / f"{part}.rs").write_text(text)
+    (folder / "main.rs").write_text("".join(f"mod {part};\n" for part in PARTS) + TOLD + MAIN)
+    options = ["--edition", "2021", "-C", "opt-level=3", "-C", "codegen-units=1", "-A", "warnings"]
+    subprocess.run(["rustc", *options, "main.rs"], cwd=folder, check=True)
 
 
 def corpus():
@@ -330,23 +355,7 @@ def answers(folder, i, logs):
     return tuple(run.stdout.split(b".\n")[:-1])
 
 
-def told_apart(folder, i, logs, expected, soon):
-    """How many logs tell the wrong rule apart, and of how many."""
-    told, tried = 0, 0
-    shares = SHARES if soon else 1
-    for k in range(shares):
-        wanted = expected[k::shares]
-        told += sum(a != b for a, b in zip(answers(folder, i, logs[k::shares]), wanted, strict=True))
-        tried += len(wanted)
-        if told >= ENOUGH and soon:
-            break
-    return told, tried
-
-
 def main():
-    soon = sys.argv[1:] == ["--soon"]
-    if sys.argv[1:] and not soon:
-        sys.exit(__doc__)
     logs, expected = corpus()
     few = False
     with tempfile.TemporaryDirectory() as name:
@@ -354,11 +363,11 @@ def main():
         build(folder)
         if answers(folder, 0, logs) != expected:
             sys.exit("the implementation as it stands does not print what is expected")
-        print(f"{'wrong rule':36} told apart by, of {len(expected)} logs{' or fewer' if soon else ''}")
+        print(f"{'wrong rule':36} told apart by, of {len(expected)} logs")
         for i, rule in enumerate(RULES, 1):
-            told, tried = told_apart(folder, i, logs, expected, soon)
+            told = sum(a != b for a, b in zip(answers(folder, i, logs), expected, strict=True))
             few = few or told < LEAST
-            print(f"{rule:36} {told}{f' of {tried}' if soon else ''}{', too few' if told < LEAST else ''}", flush=True)
+            print(f"{rule:36} {told}{', too few' if told < LEAST else ''}", flush=True)
     sys.exit(1 if few else 0)
 
 
