@@ -8,7 +8,7 @@ from functools import cache
 
 from bench_cases import ALL, CONVEYORS, OUTLINES, ZERO, chain, ladder
 from frames import Draw, asked_of, atom, case, computation, drawn_panels, formula, log_of, sendings, with_clear, with_panel
-from listing import OPERATIONS, PROGRAM, Listing, Refused, Walk, admit, answer_line, answers, contained, cuts, read, stations, true_at
+from listing import OPERATIONS, PROGRAM, Listing, Refused, Walk, admit, answer_line, answers, contained, cuts, read, stations, verdict
 
 LISTED = 500
 
@@ -45,7 +45,7 @@ class Rule(Walk):
 
         def raised(c):
             joined = (join(c, self.log.clock(s, k)) for k in range(c[s], len(self.log.history[s]) + 1))
-            return next((d for d in joined if true_at(self.log, a, d) == sign), None)
+            return next((d for d in joined if verdict(self.log, a, d) is sign), None)
 
         return self.kept(raised, [])
 

@@ -2,8 +2,8 @@
 """Makes the cases of the program crates/cases, and what it is to print for each.
 
 Usage: cases.py FOLDER [SEED]      writes FOLDER/stdin and FOLDER/stdout; the same arguments give the same bytes
-The corpus comes first, with panels, with messages and without: mutants.py takes it from there. Its last log, which has no 0A at its end,
-stays the last.
+The corpus comes first, with silent stations, with panels, with messages and without: mutants.py takes it from there. Its last log, which
+has no 0A at its end, stays the last.
 """
 import pathlib
 import sys
@@ -15,6 +15,8 @@ import large
 import messages
 import panels
 import read_write
+import silent
+import silent_cases
 import walks
 
 SEED = 20261115
@@ -23,8 +25,8 @@ SEED = 20261115
 def main():
     folder = pathlib.Path(sys.argv[1])
     seed = int(sys.argv[2]) if len(sys.argv) > 2 else SEED
-    made = [*panels.cases(seed), *messages.cases(seed), *corpus.cases(seed), *bench_cases.cases(), *bases.cases(seed), *read_write.cases()]
-    made += [*walks.cases(seed), *large.cases(seed)]
+    made = [*silent.cases(seed), *panels.cases(seed), *messages.cases(seed), *corpus.cases(seed)]
+    made += [*bench_cases.cases(), *bases.cases(seed), *read_write.cases(), *walks.cases(seed), *large.cases(seed), *silent_cases.cases(seed)]
     (folder / "stdin").write_bytes(b"".join(case for case, _ in made))
     (folder / "stdout").write_bytes(b"".join(printed for _, printed in made))
 

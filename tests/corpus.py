@@ -258,9 +258,9 @@ def met_by(data, meets):
         return [f"refused {r.number}"]
 
 
-def enough(what, names, met):
+def enough(what, names, met, least=LEAST):
     """Stops where some of these names is met by too few logs."""
-    few = [name for name in dict.fromkeys(names) if met[name] < LEAST]
+    few = [name for name in dict.fromkeys(names) if met[name] < least]
     if few:
         sys.exit(f"too few logs with {what}: {', '.join(few)}")
 

@@ -43,6 +43,13 @@ def panelled(frames, number):
     return [header] + [f[:4] + word(number(f[1])) + f[4:] if f[0] == 0x20 else f for f in rest]
 
 
+def valued(frames, value):
+    """Frames with header 10 and other values; value gives a station's, for the header and then for each of its events."""
+    (_, n, *_), *rest = frames
+    header = [0x10, n] + [b for s in range(n) for b in word(value(s))]
+    return [header] + [f[:2] + word(value(f[1])) + f[4:] if f[0] == 0x20 else f for f in rest]
+
+
 def in_turn(n, k, value):
     """k events of n stations in turn, each of which has seen all before it; value gives that of the i-th."""
     clock, events = [0] * n, []

@@ -6,7 +6,7 @@ from bases import Rule, drawn, questioned
 from bench_cases import asked, deep, holds, ladder
 from frames import (ONE, Draw, atom, case, clear, computation, drawn_panels, in_turn, log_of, message, padded, panel, receivers, sendings,
                     turned, word, wrong_check)
-from listing import OPERATIONS, PROGRAM, atoms, encode, true_at
+from listing import OPERATIONS, PROGRAM, atoms, encode, verdict
 from read_write import FRAMES, LONGEST, OLD_LOG, full_log
 
 MOST = OPERATIONS.events
@@ -144,7 +144,7 @@ def at_ends(data):
     log, f = asked(data, 0)
     [structure] = Rule(log).basis(f, True)
     for cut in [(0,) * len(log.history), tuple(map(len, log.history)), structure.least, structure.top]:
-        yield case("H", data, 0, cut), b"H yes\n" if all(true_at(log, a, cut) for a in atoms(f)) else b"H no\n"
+        yield case("H", data, 0, cut), b"H yes\n" if all(verdict(log, a, cut) for a in atoms(f)) else b"H no\n"
 
 
 def among_many(d):

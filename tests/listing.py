@@ -3,8 +3,8 @@ the product.
 
 A log is read with the refusals of document 01 in its order. A set of cuts is the list of its cuts, so raising a cut is a search
 through that list; rounds are counted over such sets. What is on the way at a cut is a search through the list of messages. A station's
-value and panel at a cut are those that its last event carries, or the header. What a question can cost is worked out from its formula
-alone.
+value and panel at a cut are those that its last event carries, or the header. A station that is silent makes a range neither true nor
+false, so truth and falsity are worked out as a pair. What a question can cost is worked out from its formula alone.
 """
 from collections import namedtuple
 from functools import cache
@@ -18,6 +18,7 @@ Message = namedtuple("Message", "sender sent receiver received")  # two stations
 DIGITS = b"0123456789ABCDEF"
 HEADERS = {0x10: 2, 0x11: 4}  # the kinds of a header, and how many bytes a value takes under each, with its panel where it has one
 ATOMS = {1: 5, 7: 2, 8: 5}  # the tokens that are no signs, and how many bytes follow each
+SILENT = 0xFFFF  # the value that a station reports while it is rebooting
 
 
 class Refused(Exception):
@@ -48,6 +49,10 @@ class Log:
     def clock(self, s, k):
         return self.event(s, k).clock
 
+    def reports(self, s):
+        """What a station reports: what the header says of it, and its events."""
+        return [self.initial[s], *self.history[s]]
+
 
 def contained(c, d):
     return all(map(le, c, d))
@@ -70,8 +75,18 @@ def cuts(log, most=float("inf")):
 
 
 def within(lo, hi, v):
-    """Is a value in a range? One whose lo is above hi holds for values from lo up and for values up to hi."""
+    """Is a number in a range? One whose lo is above hi holds for numbers from lo up and for numbers up to hi."""
     return lo <= v <= hi if lo <= hi else v >= lo or v <= hi
+
+
+def tested(lo, hi, v):
+    """The test of one value: inside a range, outside it, or silent, as True, False and None: document 02, ticket 7."""
+    return None if v == SILENT else within(lo, hi, v)
+
+
+def silences(log):
+    """The stations that are silent somewhere."""
+    return [s for s in range(len(log.initial)) if any(e.value == SILENT for e in log.reports(s))]
 
 
 def on_the_way(log, i, j, c):
@@ -80,13 +95,13 @@ def on_the_way(log, i, j, c):
     return [m for m in between if m.sent <= c[i] and (m.received == 0 or m.received > c[j])]
 
 
-def true_at(log, a, c):
-    """Is an atom true at a cut?"""
+def verdict(log, a, c):
+    """Is an atom true at a cut, or false? None where it is neither. Messages and panels are never silent."""
     if a[0] == 7:
         return not on_the_way(log, *a[1:], c)
     t, s, lo, hi = a
     last = log.event(s, c[s])
-    return within(lo, hi, last.panel if t == 8 else last.value)
+    return within(lo, hi, last.panel) if t == 8 else tested(lo, hi, last.value)
 
 
 def parse(q, at=0):
@@ -345,7 +360,7 @@ class Walk:
 
 
 class Listing(Walk):
-    """All consistent cuts of a log, and truth at each."""
+    """All consistent cuts of a log, and truth and falsity at each."""
 
     def __init__(self, log):
         super().__init__(log)
@@ -355,16 +370,47 @@ class Listing(Walk):
         """The cuts at which a formula is true."""
         t = f[0]
         if t in ATOMS:
-            return [c for c in self.cuts if true_at(self.log, f, c)]
-        one = set(self.true(f[1]))
+            return [c for c in self.cuts if verdict(self.log, f, c) is True]
         if t == 2:
-            return [c for c in self.cuts if c not in one]
-        if t in (3, 4):
-            two = set(self.true(f[2]))
-            return [c for c in self.cuts if (c in one and c in two if t == 3 else c in one or c in two)]
+            return self.false(f[1])
+        if t == 3:
+            return self.at_both(self.true(f[1]), self.true(f[2]))
+        if t == 4:
+            return self.at_one(self.true(f[1]), self.true(f[2]))
         if t == 5:
-            return [c for c in self.cuts if any(contained(c, d) for d in one)]
-        return [c for c in self.cuts if all(d in one for d in self.cuts if contained(c, d))]
+            return self.at_some_later(self.true(f[1]))
+        return self.elsewhere(self.false(f))
+
+    def false(self, f):
+        """The cuts at which a formula is false."""
+        t = f[0]
+        if t in ATOMS:
+            return [c for c in self.cuts if verdict(self.log, f, c) is False]
+        if t == 2:
+            return self.true(f[1])
+        if t == 3:
+            return self.at_one(self.false(f[1]), self.false(f[2]))
+        if t == 4:
+            return self.at_both(self.false(f[1]), self.false(f[2]))
+        if t == 5:
+            return self.elsewhere(self.true(f))
+        return self.at_some_later(self.false(f[1]))
+
+    def at_both(self, one, two):
+        both = {*one} & {*two}
+        return [c for c in self.cuts if c in both]
+
+    def at_one(self, one, two):
+        either = {*one, *two}
+        return [c for c in self.cuts if c in either]
+
+    def at_some_later(self, some):
+        """The cuts that are contained in one of some, each in itself too."""
+        return [c for c in self.cuts if any(contained(c, d) for d in some)]
+
+    def elsewhere(self, some):
+        some = {*some}
+        return [c for c in self.cuts if c not in some]
 
     def raised(self, cuts, c):
         """The least cut of a set that contains c, or None."""
@@ -384,7 +430,7 @@ class Listing(Walk):
         return self.kept([c for c in left[0] if c in both], left[1] + right[1])
 
     def atom(self, a, sign):
-        return self.kept([c for c in self.cuts if true_at(self.log, a, c) == sign], [])
+        return self.kept([c for c in self.cuts if verdict(self.log, a, c) is sign], [])
 
     def below(self, s):
         return self.kept([c for c in self.cuts if contained(c, s[2])], [])

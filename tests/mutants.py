@@ -16,9 +16,29 @@ LEAST = 10
 CASES, SOURCE = pathlib.Path("crates/cases"), pathlib.Path("tests/compare/src")
 PARTS = ["fault", "formula", "log", "basis", "operations"]
 
-# What is edited often: the limits.
+# What is edited often: the limits, whether an event is one of those that a range wants, whether a value is silent, an event taken in.
 EVENTS = "if self.events == self.limits.events {"
 MESSAGES = "if self.messages.len() == self.limits.messages {"
+TESTED = "tested(field, lo, hi, e.field(field)) == wanted"
+SILENCE = "if field == Field::Value && v == SILENT {"
+REPLY = "return Said::Silent;"
+TAKEN = "        self.history[s].push(Event::new(fields, clock));\n"
+
+
+def counted(mark):
+    """Silence is taken for what is looked for below tokens that are marked, by the token, its sign and the mark above it."""
+    return {
+        "        match (f.take(), sign) {\n            (Token::Range { field,":
+            "        use std::sync::atomic::{AtomicBool, Ordering::Relaxed};\n"
+            "        static MARK: AtomicBool = AtomicBool::new(false);\n"
+            "        let (token, above) = (f.take(), MARK.load(Relaxed));\n"
+            f"        let mark = match token {{ {mark}, _ => above }};\n"
+            "        MARK.store(mark, Relaxed);\n"
+            "        match (token, sign) {\n            (Token::Range { field,",
+        TESTED: f"{TESTED} || mark && {TESTED.replace('wanted', 'Said::Silent')}",
+        "        self.stand(out.len());\n": "        MARK.store(above, Relaxed);\n        self.stand(out.len());\n",
+    }
+
 
 # A wrong rule, and the texts in bodies of functions that it puts in place of others.
 RULES = {
@@ -42,7 +62,7 @@ RULES = {
     "bars of the left side alone": {"left.bars.iter().chain(&right.bars).copied()": "left.bars.iter().copied()"},
     "bars lost in not possibly": {"let bars: Vec<Cut> = self.basis(f, !sign).iter().map(": "let bars: Vec<Cut> = self.basis(f, !sign).iter().take(0).map("},
     "bars kept in possibly": {"        s.bars.clear();\n": ""},
-    "range as true under not": {"within(lo, hi, e.field(field)) == sign": "within(lo, hi, e.field(field))"},
+    "range as true under not": {"if sign { Said::Inside }": "if true { Said::Inside }"},
     "bars not looked at by the start": {" && !s.bars.iter().any(|b| contained(c, b))": ""},
     "hi left out": {"return lo <= v && v <= hi;": "return lo <= v && (v < hi || lo == hi && v == lo);"},
     "range through zero empty": {"    lo <= v || v <= hi\n": "    false\n"},
@@ -138,8 +158,8 @@ RULES = {
     "07 holds no structure": {"(Range { .. } | Clear { .. }, _) => ONE,": "(Range { .. }, _) => ONE,\n        (Clear { .. }, _) => Size { held: 0, ..ONE },"},
     "sender of 07 not there": {"if sender.max(receiver) >= stations {": "if receiver >= stations {"},
     "receiver of 07 not there": {"if sender.max(receiver) >= stations {": "if sender >= stations {"},
-    "65th message accepted": {"if self.messages.len() == self.limits.messages {": "if self.messages.len() == self.limits.messages + 1 {"},
-    "64th message refused": {"if self.messages.len() == self.limits.messages {": "if self.messages.len() + 1 == self.limits.messages {"},
+    "65th message accepted": {MESSAGES: "if self.messages.len() == self.limits.messages + 1 {"},
+    "64th message refused": {MESSAGES: "if self.messages.len() + 1 == self.limits.messages {"},
     "program of 63 messages": {MESSAGES: "if self.messages.len() == self.limits.messages - (self.limits.events == 127) as usize {"},
     "65th message at fault as 15": {
         "        if self.messages.len() == self.limits.messages {\n            return Err(Fault::TooManyMessages);\n        }\n": "",
@@ -169,12 +189,12 @@ RULES = {
     },
     "panel before the value in events": {"Event::new(fields, clock)": "Event::new(&[&fields[bytes - 2..], &fields[..bytes - 2]].concat(), clock)"},
     "panel behind the clock": {"f[1..].split_at(bytes))": "(&[&f[1..3], &f[3 + n..]].concat()[..], &f[3..3 + n]))"},
-    "panel of the event before": {"if inside(&h[k]) {": "if inside(&Event { panel: h[k.saturating_sub(1)].panel, ..h[k] }) {"},
-    "panel of the next event": {"if inside(&h[k]) {": "if inside(&Event { panel: h[(k + 1).min(h.len() - 1)].panel, ..h[k] }) {"},
-    "panel of the last event of all": {"if inside(&h[k]) {": "if inside(&Event { panel: h[h.len() - 1].panel, ..h[k] }) {"},
-    "panel of the header at every event": {"if inside(&h[k]) {": "if inside(&Event { panel: h[0].panel, ..h[k] }) {"},
+    "panel of the event before": {"if wanted(&h[k]) {": "if wanted(&Event { panel: h[k.saturating_sub(1)].panel, ..h[k] }) {"},
+    "panel of the next event": {"if wanted(&h[k]) {": "if wanted(&Event { panel: h[(k + 1).min(h.len() - 1)].panel, ..h[k] }) {"},
+    "panel of the last event of all": {"if wanted(&h[k]) {": "if wanted(&Event { panel: h[h.len() - 1].panel, ..h[k] }) {"},
+    "panel of the header at every event": {"if wanted(&h[k]) {": "if wanted(&Event { panel: h[0].panel, ..h[k] }) {"},
     "panel 0 taken for the one before": {
-        "        self.history[s].push(Event::new(fields, clock));\n":
+        TAKEN:
             "        let (mut e, before) = (Event::new(fields, clock), self.history[s].last().unwrap().panel);\n"
             "        e.panel = if e.panel == 0 { before } else { e.panel };\n"
             "        self.history[s].push(e);\n"
@@ -199,9 +219,7 @@ RULES = {
     "panel of header 10 the value": {"panel: word(2), clock }": "panel: word(bytes.len() - 2), clock }"},
     "panel of header 10 from the clock": {"Event::new(fields, clock)": "Event::new(&f[1..f.len().min(5)], clock)"},
     "panel of header 10 is 1": {"map_or(0, |b|": "map_or(1, |b|"},
-    "panel of header 10 in no range": {
-        "within(lo, hi, e.field(field)) == sign": "(within(lo, hi, e.field(field)) && (self.log.panels || field as u8 == 0)) == sign"
-    },
+    "panel of header 10 in no range": {TESTED: f"if self.log.panels || field as u8 == 0 {{ {TESTED} }} else {{ !sign }}"},
     "08 refused under header 10": {
         "        fits(&q)?;\n":
             "        fits(&q)?;\n"
@@ -226,11 +244,9 @@ RULES = {
     "second header 11 accepted": {"if self.stations() > 0 {": "if self.stations() > 0 && !panels {"},
     "second header before any event": {"if self.stations() > 0 {": "if self.events > 0 {"},
     "second header 11 too short as 5": {"if self.stations() > 0 {": "if self.stations() > 0 && (!panels || f.len() == 1 + 4 * self.stations()) {"},
-    "08 through zero empty": {
-        "within(lo, hi, e.field(field)) == sign": "(within(lo, hi, e.field(field)) && (lo <= hi || field as u8 == 0)) == sign"
-    },
+    "08 through zero empty": {TESTED: f"if lo <= hi || field as u8 == 0 {{ {TESTED} }} else {{ !sign }}"},
     "08 through zero refused": {"if station >= stations {": "if station >= stations || field == Field::Panel && lo > hi {"},
-    "08 as true under not": {"within(lo, hi, e.field(field)) == sign": "within(lo, hi, e.field(field)) == (sign || field as u8 == 1)"},
+    "08 as true under not": {"if sign { Said::Inside }": "if sign || field as u8 == 1 { Said::Inside }"},
     "16 for 08": {"Range { .. } => Ok(()),": "Range { field: Field::Value, .. } => Ok(()),\n        Range { .. } => if sign { Ok(()) } else { Err(fault) },"},
     "08 not among the twelve": {"if all > 12 {": "if all - panels > 12 {"},
     "twelve 08 beside twelve others": {"if all > 12 {": "if panels.max(all - panels) > 12 {"},
@@ -242,6 +258,38 @@ RULES = {
     "08 cut short accepted": {
         "let &[station, a, b, c, d] = operands else": "let mut full = operands.to_vec();\n    full.resize(if field == Field::Panel { 5 } else { full.len() }, 0);\n    let &[station, a, b, c, d] = &full[..] else"
     },
+    "FFFF a number as any other": {SILENCE: "if false {"},
+    "FFFF inside a range that reaches it": {REPLY: "return if within(lo, hi, v) { Said::Inside } else { Said::Silent };"},
+    "FFFF outside a range that lacks it": {REPLY: "return if within(lo, hi, v) { Said::Silent } else { Said::Outside };"},
+    "FFFF inside every range": {REPLY: "return Said::Inside;"},
+    "FFFF outside every range": {REPLY: "return Said::Outside;"},
+    "FFFF both inside and outside": {TESTED: f"{TESTED} || {TESTED.replace('wanted', 'Said::Silent')}"},
+    "silent as false under always": counted("Token::Always => true, Token::Possibly => false"),
+    "silent as true under possibly": counted("Token::Possibly => true, Token::Always => false"),
+    "silent under possibly and always too": counted("Token::Always => above ^ sign, Token::Possibly => above ^ !sign"),
+    "FFFF silent in 08 too": {SILENCE: "if v == SILENT {"},
+    "FFFF silent in 08 alone": {SILENCE: "if field == Field::Panel && v == SILENT {"},
+    "01 silent at panel FFFF too": {TESTED: f"{TESTED} && (field as u8 == 1 || e.panel != 0xFFFF)"},
+    "initial FFFF not silent": {TESTED: f"if e.clock == [0; 8] {{ crate::formula::within(lo, hi, e.field(field)) == sign }} else {{ {TESTED} }}"},
+    "later FFFF not silent": {TESTED: f"if e.clock != [0; 8] {{ crate::formula::within(lo, hi, e.field(field)) == sign }} else {{ {TESTED} }}"},
+    "FFFE silent as well": {"&& v == SILENT {": "&& v >= SILENT - 1 {"},
+    "every low byte FF silent": {"&& v == SILENT {": "&& v % 256 == 255 {"},
+    "FFFF not silent through zero": {SILENCE: "if field == Field::Value && v == SILENT && lo <= hi {"},
+    "FFFF silent through zero alone": {SILENCE: "if field == Field::Value && v == SILENT && lo > hi {"},
+    "FFFF not silent as an end": {SILENCE: "if field == Field::Value && v == SILENT && lo != SILENT && hi != SILENT {"},
+    "FFFF..FFFF asks for silence": {SILENCE: "if field == Field::Value && v == SILENT && lo.min(hi) != SILENT {"},
+    "ranges of every number hold FFFF": {SILENCE: "if field == Field::Value && v == SILENT && hi.wrapping_add(1) != lo {"},
+    "silent keeps the value before": {
+        TAKEN: "        let (mut e, before) = (Event::new(fields, clock), self.history[s].last().unwrap().value);\n"
+            "        e.value = if e.value == 0xFFFF { before } else { e.value };\n"
+            "        self.history[s].push(e);\n"
+    },
+    "silent once, silent for good": {
+        TAKEN: "        let (mut e, before) = (Event::new(fields, clock), self.history[s].last().unwrap().value);\n"
+            "        e.value = if before == 0xFFFF { before } else { e.value };\n"
+            "        self.history[s].push(e);\n"
+    },
+    "event with FFFF refused": {TAKEN: "        if fields[..2] == [255; 2] {\n            return Err(Fault::EventStation);\n        }\n" + TAKEN},
 }
 
 # What a case of the corpus prints: what the program does, and of each question its forecast, and what Answer comes to, lent one cell less

@@ -17,10 +17,13 @@ from concurrent.futures import ThreadPoolExecutor
 from bases import answered
 from bench_cases import (ALL, BENCH, BY_HAND, CONVEYORS, HEAD, HEADER, MESSAGES_65, OUTLINES, PANELS_BY_HAND, RECEIVED, WIDE18, ZERO, by_hand,
                          chain, ladder)
-from frames import (ONE, Draw, atom, clear, drawn_panels, exactly, in_turn, log_of, message, padded, panel, panelled, sendings, with_panel,
-                    word)
-from listing import OPERATIONS, PROGRAM, atoms, encode, printed, read, size, tokens
+from frames import (ONE, Draw, atom, clear, drawn_panels, exactly, in_turn, log_of, message, padded, panel, panelled, sendings, valued,
+                    with_panel, word)
+from listing import OPERATIONS, PROGRAM, SILENT, atoms, encode, printed, read, size, tokens
 from read_write import FRAMES, LONGEST, full_log
+from silent_cases import BY_HAND as SILENT_BY_HAND
+from silent_cases import LOGS as SILENCES
+from silent_cases import NOTHING
 
 ROOT = pathlib.Path(__file__).resolve().parent.parent
 MOMENTS = ROOT / "target" / "bin" / "moments"
@@ -44,15 +47,16 @@ def question(d, lead, clears):
     return lead + [3] * 7 + [b for p in ors + parts[8:] for b in p]
 
 
-def at_every_limit(messages=0, panels=False):
+def at_every_limit(messages=0, panels=False, values=None):
     """8 stations, 127 events, so many messages, panels or none, 16 questions, each with the most tokens, atoms, and width or bars: without
-    messages and panels the longest log of that kind, and with some questions about them too."""
+    messages and panels the longest log of that kind, and with some questions about them too. Values are 0 to 3, or those given."""
     d = Draw(20261116)
     frames, last = [[0x10, 8] + [b for _ in range(8) for b in word(d.below(4))]], [[0] * 8 for _ in range(8)]
     for i in range(PROGRAM.events):
         s = i % 8
         last[s] = [max(pair) + (j == s) for j, pair in enumerate(zip(last[s], last[d.below(8)]))]
         frames.append([0x20, s] + word(d.below(4)) + last[s])
+    frames = valued(frames, lambda s: d.pick(values)) if values else frames
     frames += sendings(d, frames, messages) if messages else []
     questions = [question(d, [[2, 2], [2, 5], [5], [6, 2]][i % 4], 3 if messages else 0) for i in range(16)]
     if panels:
@@ -194,6 +198,40 @@ def outlines():
         yield name, log_of(FRAMES[name]), refusal(number, len(FRAMES[name]))
 
 
+def together(worked_out):
+    """Logs that were worked out by hand, with up to 16 questions each where they are alike before the question and not refused."""
+    alike = {}
+    for head, messages, q, lines in worked_out:
+        log, question = head + log_of(messages), encode([0x30] + q)
+        if lines.startswith(b"40"):
+            alike.setdefault(log, []).append((question, lines))
+        else:
+            yield log + question, lines
+    for log, asked in alike.items():
+        for k in range(0, len(asked), 16):
+            questions, lines = zip(*asked[k:k + 16])
+            yield log + b"".join(questions), b"".join(lines)
+
+
+def silences():
+    """Logs with silent stations: questions about them, every limit, and refusals, which are as they were."""
+    events = [ONE] + in_turn(1, 128, lambda i: SILENT)
+    often, full = [0, 1, 2, SILENT], at_every_limit(64, True, [0, 3, SILENT])
+    for data in SILENCES:
+        yield "sixteen questions about silent stations", data, None
+    for data, lines in together(SILENT_BY_HAND):
+        yield "questions about silent stations, worked out by hand", data, lines
+    yield "every limit, silent stations", at_every_limit(0, False, often), None
+    yield "every limit, messages, panels and silent stations", full, None
+    yield "every limit, all stations silent", at_every_limit(0, False, [SILENT]), None
+    yield "every limit, silent stations, without the last 0A", full[:-1], refusal(2, 208)
+    yield "8,192 bytes with silent stations, the 17th question at line 209", padded(full, PROGRAM.log), refusal(4, 209)
+    yield "127 events, silent but for the header: inside", log_of(events[:-1] + [[0x30] + atom(0, 0, SILENT)]), b"4001010000000000BE\n"
+    yield "127 events, silent but for the header: outside", log_of(events[:-1] + [[0x30, 2] + atom(0, 0, 0)]), NOTHING
+    yield "127 events, silent but for the header: always", log_of(events[:-1] + [[0x30, 6] + atom(0, 0, 0)]), b"4001017F000000003F\n"
+    yield "128 events, silent", log_of(events), refusal(4, 129)
+
+
 def files():
     """A name, the bytes, and what is to be printed where that is worked out by hand."""
     long, full = refusal(1, 0), at_every_limit()
@@ -231,6 +269,7 @@ def files():
     yield "ranges through zero", ZERO, None
     yield from conveyors()
     yield from outlines()
+    yield from silences()
     yield from examples()
 
 
@@ -289,7 +328,8 @@ def tried(name, data, by_hand):
 def main():
     if not MOMENTS.exists():
         sys.exit("target/bin/moments is not there: run rt check moments")
-    if {at for data in (at_every_limit(), at_every_limit(64), at_every_limit(64, True)) for at in at_limits(data)} != {(32, 12, 16)}:
+    limits = [at_every_limit(), at_every_limit(64), at_every_limit(64, True), at_every_limit(64, True, [0, SILENT])]
+    if {at for data in limits for at in at_limits(data)} != {(32, 12, 16)}:
         sys.exit("a question is not at every limit")
     cases = wrong = 0
     with ThreadPoolExecutor(AT_ONCE) as pool:

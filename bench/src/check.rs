@@ -5,6 +5,7 @@ use crate::codes::{Peer, PEERS};
 use compare::check::Case;
 use compare::log::{Log, OPERATIONS, PROGRAM, QUESTIONS};
 use compare::operations::{self, printed, BARS, LINE, WORKSPACE};
+use compare::silences;
 use std::fs::read;
 use std::panic::{catch_unwind, set_hook, take_hook, AssertUnwindSafe};
 
@@ -88,14 +89,15 @@ fn answers(log: &[u8]) -> Vec<u8> {
     lines
 }
 
-/// How many logs there were, and of the accepted ones how many of more events than the program takes, with messages, and with a header of
-/// kind 11.
+/// How many logs there were, and of the accepted ones how many of more events than the program takes, with messages, with a header of kind
+/// 11, and with a silent station.
 #[derive(Default)]
 pub struct Seen {
     pub logs: u64,
     pub large: u64,
     pub messages: u64,
     pub panels: u64,
+    pub silent: u64,
 }
 
 impl Seen {
@@ -105,6 +107,7 @@ impl Seen {
         self.large += (log.events > PROGRAM.events) as u64;
         self.messages += !log.messages.is_empty() as u64;
         self.panels += log.panels as u64;
+        self.silent += silences::any(&log) as u64;
     }
 }
 

@@ -116,9 +116,9 @@ fn main() {
         ["answer", code, times] => return once::answer(code, times),
         ["check", ref numbers @ ..] if numbers.len() < 3 => {
             let number = |i: usize, usual| numbers.get(i).map_or(usual, |n| n.parse().unwrap_or_else(|_| refuse("usage: bench check [LOGS] [SEED]")));
-            let Seen { logs, large, messages, panels } = checked(number(0, check::LOGS), number(1, check::SEED));
+            let Seen { logs, large, messages, panels, silent } = checked(number(0, check::LOGS), number(1, check::SEED));
             let accepted = format!("{large} accepted of more than {} events, {messages} accepted with messages", PROGRAM.events);
-            return println!("{logs} logs, {accepted}, {panels} accepted with header 11, all equal");
+            return println!("{logs} logs, {accepted}, {panels} accepted with header 11, {silent} accepted with a silent station, all equal");
         }
         [folder] => folder,
         [] => "docs",

@@ -1,5 +1,5 @@
 //! The basis in plain Rust: cuts handed on by value, a row an Option, a structure its rows by station.
-use compare::formula::{within, Token, Tokens};
+use compare::formula::{tested, Said, Token, Tokens};
 use compare::log::{contained, Cut, Log, Message, OPERATIONS};
 use compare::operations::{answer_line, printed_by};
 
@@ -59,8 +59,8 @@ impl Plain<'_> {
     fn basis(&mut self, f: &mut Tokens, sign: bool) -> Vec<Structure> {
         match (f.take(), sign) {
             (Token::Range { field, station, lo, hi }, _) => {
-                let h = &self.log.history[station];
-                let next = |c: &Cut| (c[station] as usize..h.len()).find(|&k| within(lo, hi, h[k].field(field)) == sign);
+                let (h, wanted) = (&self.log.history[station], if sign { Said::Inside } else { Said::Outside });
+                let next = |c: &Cut| (c[station] as usize..h.len()).find(|&k| tested(field, lo, hi, h[k].field(field)) == wanted);
                 self.build(vec![], |_, c| next(c).map(|k| join(c, &h[k].clock))).into_iter().collect()
             }
             (Token::Clear { sender, receiver }, _) => {

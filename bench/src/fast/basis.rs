@@ -50,7 +50,7 @@ impl<'a> Finder<'a> {
         let (from, rest) = (self.standing.len(), &f[1..]);
         match (f[0], sign) {
             (1 | 8, _) => {
-                let range = Range { panel: f[0] == 8, station: f[1] as usize, lo: word(f[2], f[3]), hi: word(f[4], f[5]), sign };
+                let range = Range::new(f[0] == 8, f[1] as usize, word(f[2], f[3]), word(f[4], f[5]), sign);
                 if range.numbers(self.sets.log).iter().any(|&v| range.has(v)) {
                     let s = self.fresh(Some(range));
                     self.standing.push(s);

@@ -10,23 +10,35 @@
 //! looks up what it comes to and when. A pair of other sets is raised station by station; a right half that changes nothing is the last.
 use super::cut::{contained, count, join, Cut, NONE};
 use super::read::Log;
+use compare::formula::SILENT;
 
-/// The cuts where a station's value, or its panel, is from lo to hi, through zero if lo is above hi, or is not.
+/// How many numbers two bytes have, which is none of them.
+const NUMBERS: u32 = 1 << 16;
+
+/// The cuts where a station's value, or its panel, is one of `many` numbers from `from` on, which go through zero, and not `except`. So are
+/// those where it is inside a range, and those where it is outside; a silent value is neither.
 #[derive(Clone, Copy)]
 pub struct Range {
     pub panel: bool,
     pub station: usize,
-    pub lo: u16,
-    pub hi: u16,
-    pub sign: bool,
+    from: u16,
+    many: u32,
+    except: u32,
 }
 
 impl Range {
-    /// All cuts.
-    pub const ALL: Self = Range { panel: false, station: 0, lo: 0, hi: u16::MAX, sign: true };
+    /// All cuts: every panel is there.
+    pub const ALL: Self = Range::new(true, 0, 0, u16::MAX, true);
+
+    /// From lo to hi, through zero if lo is above hi, or the numbers outside.
+    pub const fn new(panel: bool, station: usize, lo: u16, hi: u16, sign: bool) -> Self {
+        let inside = hi.wrapping_sub(lo) as u32 + 1;
+        let (from, many) = if sign { (lo, inside) } else { (hi.wrapping_add(1), NUMBERS - inside) };
+        Range { panel, station, from, many, except: if panel { NUMBERS } else { SILENT as u32 } }
+    }
 
     pub fn has(&self, number: u16) -> bool {
-        (number.wrapping_sub(self.lo) <= self.hi.wrapping_sub(self.lo)) == self.sign
+        ((number.wrapping_sub(self.from) as u32) < self.many) & (number as u32 != self.except)
     }
 
     /// What it looks at: the station's values or its panels, the initial one first.

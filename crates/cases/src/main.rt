@@ -13,7 +13,7 @@ use trial::Case;
 const OUTPUT: usize = Log::BYTES + 8;
 
 // The most that is read.
-const INPUT: usize = 0x0038_0000;
+const INPUT: usize = 0x0040_0000;
 
 // Cells for every question of every accepted log.
 const WORKSPACE: usize = Log::HELD * Log::STATIONS * (Log::EVENTS + 1);

@@ -36,7 +36,7 @@ said-no false = (λ h. refl, λ h. refl)
 pub told : (K : Computation) → Valid K → (f : Formula) → workable (asTrue f) ≡ true → (c : Cut) → Consistent K c → Tested K f c (gives (yesNo (trueAt K f c) ∷ []))
 told K ok f w c p = record {
   when-true = (λ h. tested K ok f w c p .0 (said-yes (trueAt K f c) .0 h), λ t. said-yes (trueAt K f c) .1 (tested K ok f w c p .1 t));
-  when-false = (λ h. untested K ok f w c p .0 (said-no (trueAt K f c) .0 h), λ n. said-no (trueAt K f c) .1 (untested K ok f w c p .1 n));
+  when-not-true = (λ h. untested K ok f w c p .0 (said-no (trueAt K f c) .0 h), λ n. said-no (trueAt K f c) .1 (untested K ok f w c p .1 n));
 }
 
 -- Demand 3.

@@ -1,26 +1,33 @@
 -- The basis of an atom, as true or as false: what build makes of its raising function.
-use mathlib.Core.Path.{_≡_, refl}
+use mathlib.Core.Path.{_≡_, refl, sym, _∙_}
 use mathlib.Core.Logic.{_↔_}
 use Prim.Native.Nat.{ℕ}
 use mathlib.Core.Bool.{Bool, true, false}
 use mathlib.Core.Option.{Option}
 use mathlib.Core.List.{[]}
-use Rattle.model.specs.Cut.{Cut, _⊑_, insideAny}
+use Rattle.model.specs.declared.Aspect.{Aspect}
+use Rattle.model.specs.Cut.{Cut, _!_, _⊑_, insideAny}
 use Rattle.model.specs.Computation.{Computation, Consistent, report}
-use Rattle.model.specs.Atom.{Atom, seen, within, isTrue, askable, raiseTo, passes, raiseAtom}
+use Rattle.model.specs.Atom.{Atom, seen, isTrue, isFalse, askable, raiseTo, passes, raiseAtom}
 use Rattle.model.specs.Atom.Atom.{inRange, clear}
 use Rattle.model.specs.Structure.{build}
 use Rattle.lattice.proofs.Valid.{Valid}
-use Rattle.lattice.proofs.Tests.{clash, not-true}
+use Rattle.lattice.proofs.Tests.{clash}
 use Rattle.lattice.proofs.Structures.{Least, Regular}
 use Rattle.lattice.proofs.Bases.{IsBasis, basis-iff, build-basis}
 use Rattle.lattice.proofs.Sets.{Passes, passes-regular, passes-least}
 use Rattle.lattice.proofs.Messages.{Clear, clear-iff, clear-regular, clear-least}
 
-passes-iff : (b : Bool) (lo hi v : ℕ) → (passes b lo hi v ≡ true) ↔ (within lo hi v ≡ b)
-unfolding passes
-passes-iff true lo hi v = (λ h. h, λ h. h)
-passes-iff false lo hi v = not-true (within lo hi v)
+-- Is the atom true at the cut, as true; is it false there, as false?
+abbrev pub isAs : Computation → Bool → Atom → Cut → Bool
+isAs K true a c = isTrue K a c
+isAs K false a c = isFalse K a c
+
+-- A range is, where what it looks at passes.
+passes-same : (K : Computation) (b : Bool) (a : Aspect) (s lo hi : ℕ) (c : Cut) → passes b a lo hi (seen a (report K s (c ! s))) ≡ isAs K b (inRange a s lo hi) c
+unfolding passes isTrue isFalse
+passes-same K true a s lo hi c = refl
+passes-same K false a s lo hi c = refl
 
 module _ (K : Computation) (ok : Valid K) where
   -- What build makes of a function that finds the least cuts of a set, with no bars.
@@ -34,10 +41,10 @@ module _ (K : Computation) (ok : Valid K) where
   counted-basis s p X = plain-basis (Passes K ok s p) X (passes-regular K ok s p) (raiseTo K s p) (passes-least K ok s p)
 
   -- An atom that cannot be worked out under its sign is given no cuts.
-  pub literal-basis : (b : Bool) (a : Atom) → IsBasis K (build K (raiseAtom K b a) []) (λ c. (askable b a ≡ true) × (isTrue K a c ≡ b))
-  unfolding raiseAtom isTrue askable
+  pub literal-basis : (b : Bool) (a : Atom) → IsBasis K (build K (raiseAtom K b a) []) (λ c. (askable b a ≡ true) × (isAs K b a c ≡ true))
+  unfolding raiseAtom askable
   literal-basis b (inRange a s lo hi) =
-      counted-basis s (λ k. passes b lo hi (seen a (report K s k))) _ (λ c q. (λ u. (refl, passes-iff b lo hi _ .0 (u .1)), λ u. (q, passes-iff b lo hi _ .1 (u .1))))
+      counted-basis s (λ k. passes b a lo hi (seen a (report K s k))) _ (λ c q. (λ u. (refl, sym (passes-same K b a s lo hi c) ∙ u .1), λ u. (q, passes-same K b a s lo hi c ∙ u .1)))
   literal-basis true (clear i j) =
       plain-basis (Clear K ok i j (K .messages)) _ (clear-regular K ok i j (K .messages)) _ (clear-least K ok i j) (λ c q. (λ u. (refl, clear-iff K ok i j c .1 (u .1)), λ u. (q, clear-iff K ok i j c .0 (u .1))))
   literal-basis false (clear i j) =

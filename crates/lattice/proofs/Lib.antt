@@ -23,6 +23,9 @@ pub mod Messages
 pub mod Due
 pub mod Atoms
 pub mod Theorem
+pub mod Search
+pub mod Silence
+pub mod Before
 pub mod Tops
 pub mod Order
 pub mod Sorting

@@ -75,7 +75,7 @@ module _ (K : Computation) (ok : Valid K) where
   literal-station b a s lo hi = build-station K ok s p (passes-regular K ok s p) (raiseTo K s p) (passes-least K ok s p) (λ c q. refl) []
     where
       p : ℕ → Bool
-      p k = passes b lo hi (seen a (report K s k))
+      p k = passes b a lo hi (seen a (report K s k))
 
   -- The structure of all cuts, whatever the bars.
   pub all-station : (s : ℕ) (bars : List Cut) → All (OfOwnRows K s) (build K some bars)

@@ -14,7 +14,7 @@ use Rattle.model.specs.Lists.{sum, between, every}
 use Rattle.model.specs.Bytes.{push, linesOf, digit, byte, bytes, carried, items, hexDigit, hex, checkByte, line}
 use Rattle.model.specs.Looks.{own, wellFormed}
 use Rattle.model.specs.Frames.{word, logOf, listOf, before, entry, split, framesIn, framesOf}
-use Rattle.model.specs.Atom.{rangeToken, atomBytes, operands, rangeOf, atomOf, soundAtom, seen, within, sentBy, onWay, noMessage, isTrue, askable, next, upTo, raiseTo, passes, raiseAtom}
+use Rattle.model.specs.Atom.{rangeToken, atomBytes, operands, rangeOf, atomOf, soundAtom, seen, within, test, isInside, isOutside, sentBy, onWay, noMessage, isTrue, isFalse, askable, next, upTo, raiseTo, passes, raiseAtom}
 use Rattle.model.specs.Atom.Atom.{inRange, clear}
 use Rattle.model.specs.Formula.{Formula, prefix, ahead, one, two, sign, token, spelt, formulasIn, single, formulaOf, sound, weigh}
 use Rattle.model.specs.Formula.Formula.{atom, not, and, or, possibly, always}
@@ -62,6 +62,17 @@ panelled = ascii "11020000000700000008DE\n2000000500090100D1\n2001000100080001D5
 
 pub asking-panels : Formula → List ℕ
 asking-panels f = panelled ++ line (0x30 ∷ prefix f)
+
+-- The bench log with station 0 silent until its event, and station 1 silent between its two.
+pub silenced : List ℕ
+silenced = ascii "1002FFFF0000F0\n200000050100DA\n2001FFFF0001E0\n200100020102DA\n"
+
+pub asking-silenced : Formula → List ℕ
+asking-silenced f = silenced ++ line (0x30 ∷ prefix f)
+
+-- A station that reports value and panel FFFF, and has no events.
+pub asking-panel-FFFF : Formula → List ℕ
+asking-panel-FFFF f = ascii "1101FFFFFFFFF2\n" ++ line (0x30 ∷ prefix f)
 
 -- An event with a value, with no panel, and its clock.
 pub event : ℕ → Cut → Event
@@ -122,7 +133,7 @@ interleaved = record {
 
 -- All that is computed with: to unfold this is to unfold what its line names.
 definitions : Unit {0}
-unfolding ascii range panel bench Q asking panelled asking-panels event holdsAt two-ways three-ways after-events after-messages message sending none-between interleaved sum between every push linesOf digit byte bytes carried items own wellFormed hexDigit hex checkByte line word logOf listOf before entry split framesIn framesOf rangeToken atomBytes operands rangeOf atomOf soundAtom seen within sentBy onWay noMessage isTrue askable next upTo raiseTo passes raiseAtom prefix ahead one two sign token spelt formulasIn single formulaOf sound weigh inside insideAny join clock report known isConsistent counted clockOk messageOk asTrue asFalse workable width bars held slim narrow fits row joined raiseBy raise reaches inSet belongs belongsAny joinRow joinRows greatest keep buildOn build thenRight round onward after run start intersect each pairs below lowered barred basis roundsOfPair roundsOfPairs rounds notInside add tops precedes insert sort trueAt answer inRow fourBytes answerLine refusalLine begun check reportSize reportOf reportsOf headerKind headerForm opened admitHeader eventForm extended unasked unsent admitEvent informed admitMessage asked admitQuestion admit finish proceed readItems readLog readFrames readList readEffect readOp posing openingOf opening cramped forecastReplyTo forecastOp lineEffect answerEffect answerOp holdsReplyTo holdsOp writeEffect writeOp answerLines printedOf printed mostBars ceiling forecast
+unfolding ascii range panel bench Q asking panelled asking-panels silenced asking-silenced asking-panel-FFFF event holdsAt two-ways three-ways after-events after-messages message sending none-between interleaved sum between every push linesOf digit byte bytes carried items own wellFormed hexDigit hex checkByte line word logOf listOf before entry split framesIn framesOf rangeToken atomBytes operands rangeOf atomOf soundAtom seen within test isInside isOutside sentBy onWay noMessage isTrue isFalse askable next upTo raiseTo passes raiseAtom prefix ahead one two sign token spelt formulasIn single formulaOf sound weigh inside insideAny join clock report known isConsistent counted clockOk messageOk asTrue asFalse workable width bars held slim narrow fits row joined raiseBy raise reaches inSet belongs belongsAny joinRow joinRows greatest keep buildOn build thenRight round onward after run start intersect each pairs below lowered barred basis roundsOfPair roundsOfPairs rounds notInside add tops precedes insert sort trueAt answer inRow fourBytes answerLine refusalLine begun check reportSize reportOf reportsOf headerKind headerForm opened admitHeader eventForm extended unasked unsent admitEvent informed admitMessage asked admitQuestion admit finish proceed readItems readLog readFrames readList readEffect readOp posing openingOf opening cramped forecastReplyTo forecastOp lineEffect answerEffect answerOp holdsReplyTo holdsOp writeEffect writeOp answerLines printedOf printed mostBars ceiling forecast
 definitions = tt
 
 -- The twelve cases marked *.
@@ -279,6 +290,24 @@ pub no-panels :
     × (printed (asking-panels (panel 2 0 0)) ≡ ascii "50080005A3\n")
 unfolding definitions
 no-panels = (refl, refl, refl, refl, refl, refl)
+
+-- Silent stations: FFFF is inside no range, one through zero neither, and outside none; under always it bars nothing, so that always can be true where its operand is not; under not possibly; P or not P is not true where P is silent. Panel FFFF is a number like any other.
+pub silent :
+    (printed (asking-silenced (range 0 0xFFFF 0xFFFF)) ≡ ascii "40000000000000C0\n")
+    × (printed (asking-silenced (range 0 0 0xFFFF)) ≡ ascii "400001010200000000BC\n")
+    × (printed (asking-silenced (not (range 0 5 5))) ≡ ascii "40000000000000C0\n")
+    × (printed (asking-silenced (range 1 0xFFFE 0)) ≡ ascii "400101010000000000BD\n")
+    × (printed (asking-silenced (not (range 1 0xFFFE 0))) ≡ ascii "400001010200000000BC\n")
+    × (printed (asking-silenced (always (range 0 5 5))) ≡ ascii "400101010200000000BB\n")
+    × (printed (asking-silenced (always (range 1 0 5))) ≡ ascii "400101010200000000BB\n")
+    × (printed (asking-silenced (not (possibly (range 0 0xFFFF 0xFFFF)))) ≡ ascii "400101010200000000BB\n")
+    × (holdsOp limits (asking-silenced (or (range 1 0 2) (not (range 1 0 2)))) 0 (0 ∷ 1 ∷ []) workspaceSize barspaceSize ≡ gives (0 ∷ []))
+    × (holdsOp limits (asking-silenced (or (range 1 0 2) (not (range 1 0 2)))) 0 (1 ∷ 2 ∷ []) workspaceSize barspaceSize ≡ gives (1 ∷ []))
+    × (printed (asking-panel-FFFF (panel 0 0xFFFF 0xFFFF)) ≡ ascii "4001010000000000BE\n")
+    × (printed (asking-panel-FFFF (not (panel 0 0 1))) ≡ ascii "4001010000000000BE\n")
+    × (printed (asking-panel-FFFF (or (range 0 0xFFFF 0xFFFF) (not (range 0 0xFFFF 0xFFFF)))) ≡ ascii "40000000000000C0\n")
+unfolding definitions
+silent = (refl, refl, refl, refl, refl, refl, refl, refl, refl, refl, refl, refl, refl)
 
 -- What is promised of accepted logs and their questions is promised of this one.
 pub bench-asked : Asked limits (asking Q) 0 benched Q

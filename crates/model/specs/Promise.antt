@@ -72,10 +72,10 @@ pub record Answered (K : Computation) (f : Formula) (line : List ℕ) : Type 0 w
   pub under-ceiling : rounds ≤ forecast K f .ceiling
   pub within-width : length cuts ≤ forecast K f .width
 
--- DEMAND 2, of the reply to a consistent cut
+-- DEMAND 2, of the reply to a consistent cut: yes says that the formula is true there, no that it is not true, which is false or neither
 pub record Tested (K : Computation) (f : Formula) (c : Cut) (reply : Reply) : Type 0 where
   pub when-true : (reply ≡ gives (1 ∷ [])) ↔ True K f c
-  pub when-false : (reply ≡ gives (0 ∷ [])) ↔ (True K f c → ⊥)
+  pub when-not-true : (reply ≡ gives (0 ∷ [])) ↔ (True K f c → ⊥)
 
 -- FORECAST, of the reply for the question f
 pub record Foretold (m : Limits) (log : List ℕ) (q : ℕ) (K : Computation) (f : Formula) (reply : Reply) : Type 0 where

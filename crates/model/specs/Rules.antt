@@ -1,4 +1,4 @@
--- The two rules: a formula and its negation, worked out until no sign is left but those of a basis.
+-- The two rules: a formula as true and as false, worked out until no sign is left but those of a basis.
 use mathlib.Core.Bool.{Bool, true, false, _&&_}
 use Rattle.model.specs.Atom.{Atom, askable}
 use Rattle.model.specs.Formula.{Formula}

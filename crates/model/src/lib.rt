@@ -131,6 +131,13 @@ pub enum Aspect {
     Panel,
 }
 
+// What the test of one value by a range says.
+pub enum Finding {
+    Inside,
+    Outside,
+    Silent,
+}
+
 // What can be wrong.
 pub enum Fault {
     LongLog,

@@ -28,18 +28,18 @@ module _ (K : Computation) (shape : Shape) (starts : List ℕ) (laid : Laid K sh
   values-fit = omega (arith, own-fit K shape starts laid s h, aspect-low a, facts .filed .fit, laid .shaped .few-events, laid .shaped .few-stations)
 
   module _ (b : Bool) (lo hi : ℕ) (table : List ℕ)
-      (tab : (k : ℕ) → k < 256 → getD table k 0 ≡ entry (λ j. passes b lo hi (getD values (at + getD (shape .offs) s 0 + s + j) 0)) (getD (shape .counts) s 0) k) where
+      (tab : (k : ℕ) → k < 256 → getD table k 0 ≡ entry (λ j. passes b a lo hi (getD values (at + getD (shape .offs) s 0 + s + j) 0)) (getD (shape .counts) s 0) k) where
     abbrev found : ℕ → Bool
-    found j = passes b lo hi (getD values (at + getD (shape .offs) s 0 + s + j) 0)
+    found j = passes b a lo hi (getD values (at + getD (shape .offs) s 0 + s + j) 0)
 
     abbrev looked : ℕ → Bool
-    looked j = passes b lo hi (seen a (report K s j))
+    looked j = passes b a lo hi (seen a (report K s j))
 
     found-same : (j : ℕ) → j ≤ getD (shape .counts) s 0 → looked j ≡ found j
     found-same j l =
         let c : j ≤ count K s = omega (arith, count-is K shape starts laid s h) in
         let e : aspectAt a + (total (take s (full K)) + s + j) ≡ at + getD (shape .offs) s 0 + s + j = omega (arith, begins, offs-is K shape starts laid s h) in
-        ap (passes b lo hi) (sym (facts .shown a s j h c) ∙ ap (λ (x : ℕ). getD values x 0) e)
+        ap (passes b a lo hi) (sym (facts .shown a s j h c) ∙ ap (λ (x : ℕ). getD values x 0) e)
 
     pub range-tabled : Tabled (shape .n) (shape .e) s (getD (shape .offs) s 0) table (length starts)
     range-tabled = atoms.tabled K shape starts laid s h looked found found-same table tab

@@ -85,17 +85,18 @@ fn fill_table(
     at: usize,
     count: usize,
     sign: bool,
+    a: Aspect,
     lo: u16,
     hi: u16,
 )
     requires { ⌜ (now table ≡ replicate 256 255) × (count ≤ limits .events) × (at + count < length (now values)) ⌝ }
-    ensures { λ _. ⌜ ((k : ℕ) → k < 256 → getD (now (table .exit)) k 0 ≡ entry (λ j. passes sign lo hi (getD (now (values .entry)) (at + j) 0)) count k) ⌝ }
+    ensures { λ _. ⌜ ((k : ℕ) → k < 256 → getD (now (table .exit)) k 0 ≡ entry (λ j. passes sign a lo hi (getD (now (values .entry)) (at + j) 0)) count k) ⌝ }
 {
     let mut last = NONE;
     let mut k = count + 1;
     while 0 < k {
         k -= 1;
-        if ranges::passes(sign, lo, hi, values[at + k]) {
+        if ranges::passes(sign, a, lo, hi, values[at + k]) {
             last = k as u8;
         }
         table[k] = last;
@@ -198,6 +199,7 @@ pub fn range(
         aspect_at(a) + off + s,
         counts[s] as usize,
         sign,
+        a,
         r.lo,
         r.hi,
     );

@@ -1,5 +1,5 @@
 //! The basis, with rows of fixed size worked on in place.
-use crate::formula::{within, Token, Tokens};
+use crate::formula::{tested, Said, Token, Tokens};
 use crate::log::{contained, Cut, Event, Log, Message, OPERATIONS};
 
 /// A row that is none has 255 at station 0.
@@ -81,11 +81,12 @@ impl<'a> Worker<'a> {
         out
     }
 
-    fn range(&self, station: usize, inside: impl Fn(&Event) -> bool) -> Structure {
+    /// The cuts at which the station's last event is one of those wanted.
+    fn range(&self, station: usize, wanted: impl Fn(&Event) -> bool) -> Structure {
         let h = &self.log.history[station];
         let mut next = [None; OPERATIONS.events + 2];
         for k in (0..h.len()).rev() {
-            next[k] = if inside(&h[k]) { Some(&h[k].clock) } else { next[k + 1] };
+            next[k] = if wanted(&h[k]) { Some(&h[k].clock) } else { next[k + 1] };
         }
         let raised = |c: &Cut| {
             let mut d = *c;
@@ -171,7 +172,10 @@ impl<'a> Worker<'a> {
     pub fn basis(&mut self, f: &mut Tokens, sign: bool) -> Vec<Structure> {
         let mut out = Vec::new();
         match (f.take(), sign) {
-            (Token::Range { field, station, lo, hi }, _) => out.push(self.range(station, |e| within(lo, hi, e.field(field)) == sign)),
+            (Token::Range { field, station, lo, hi }, _) => {
+                let wanted = if sign { Said::Inside } else { Said::Outside };
+                out.push(self.range(station, |e| tested(field, lo, hi, e.field(field)) == wanted));
+            }
             (Token::Clear { sender, receiver }, true) => out.push(self.clear(sender, receiver)),
             (Token::Clear { .. }, false) => unreachable!("refused"),
             (Token::Not, _) => out = self.basis(f, !sign),

@@ -18,6 +18,8 @@ use crate::peak::{Peak, Peaks};
 use crate::proved::{self, Reply};
 use crate::ranges::Ranges;
 use crate::sides::{Side, Sides, FIXED_CELLS};
+use crate::silences::Silences;
+use crate::silent;
 use std::fmt::Debug;
 
 /// What a seed gives: a log and a frame list, and the draws that follow.
@@ -63,13 +65,16 @@ impl Case {
     pub fn new(seed: u64) -> Self {
         let mut draw = Draw(seed);
         let d = &mut draw;
-        // Whether the log is large, too long or neither, and whether it has messages or panels, is drawn apart, so that others do not
-        // depend on it.
+        // Whether the log is large, too long or neither, and whether it has messages, panels or silent stations, is drawn apart, so that
+        // others do not depend on it.
         let (sort, panels) = (Draw(!seed).below(26), Draw(seed.rotate_left(16)).below(7) < 2);
         let sent = Draw(seed.rotate_left(32)).below(4) < if panels { 2 } else { 1 };
         let mut fs = plain(d, sort, sent);
         if panels {
             fs = panels::frames(d, fs);
+        }
+        if Draw(seed.rotate_left(48)).below(10) == 0 {
+            silent::give(d, &mut fs);
         }
         let (mut log, mut list) = (made::lines(&fs), made::list(&fs));
         let limits = if sort < 2 { OPERATIONS } else { PROGRAM };
@@ -96,8 +101,8 @@ use Lends::*;
 
 /// What was seen: calls, accepted logs, Holds' no and yes, answers that list no, one and several cuts, workspaces refused for one cell
 /// less than forecast and accepted with just these cells, each fault, without a header of kind 11 and with one, peaks, sides of limits,
-/// ends of ranges, tokens 07 and 08, and by their stations the accepted logs of more events than the program takes, and those with a header
-/// of kind 11.
+/// ends of ranges, tokens 07 and 08, silent stations, and by their stations the accepted logs of more events than the program takes, and
+/// those with a header of kind 11.
 pub struct Counts {
     pub calls: usize,
     pub accepted: usize,
@@ -110,6 +115,7 @@ pub struct Counts {
     pub ranges: Ranges,
     pub clears: Clears,
     pub fields: Fields,
+    pub silences: Silences,
     pub large: [usize; STATIONS],
     pub panels: [usize; STATIONS],
 }
@@ -117,9 +123,9 @@ pub struct Counts {
 impl Counts {
     pub fn new() -> Self {
         let (peaks, sides, ranges) = (Peaks::default(), Sides::default(), Ranges::default());
-        let (clears, fields) = (Clears::default(), Fields::default());
+        let (clears, fields, silences) = (Clears::default(), Fields::default(), Silences::default());
         let (holds, answers, limit, faults, large, panels) = ([0; 2], [0; 3], [0; 2], [[0; KINDS]; 2], [0; STATIONS], [0; STATIONS]);
-        Counts { calls: 0, accepted: 0, holds, answers, limit, faults, peaks, sides, ranges, clears, fields, large, panels }
+        Counts { calls: 0, accepted: 0, holds, answers, limit, faults, peaks, sides, ranges, clears, fields, silences, large, panels }
     }
 
     fn meet_log(&mut self, log: &Log, bytes: usize) {
@@ -128,6 +134,7 @@ impl Counts {
         let large = log.events > PROGRAM.events;
         self.large[log.stations() - 1] += large as usize;
         self.panels[log.stations() - 1] += log.panels as usize;
+        self.silences.meet_log(log);
         let program = |figure: usize| if large { 0 } else { figure };
         self.peaks.meet(&[
             (Peak::Stations, log.stations()), (Peak::Events, log.events), (Peak::StationEvents, station),
@@ -299,6 +306,7 @@ impl Calls<'_> {
         let truth = listing::truth(log, &cuts, &mut Tokens(f));
         let expected = answer_line(truth[0], &listing::maximal(&cuts, &truth), n, rounds);
         assert_eq!(line, expected, "question {q}: proved and listed");
+        self.counts.silences.meet_listed(log, f, &cuts, &truth);
         let work = rounds as usize + if log.events > PROGRAM.events { 30_000 } else { 0 };
         let (all, step) = (listing::all(log), 1 + work * cuts.len() / 400_000);
         for c in all.into_iter().skip(self.draw.below(step)).step_by(step) {
@@ -353,6 +361,7 @@ pub fn compare(case: Case, lent: &mut Buffers, counts: &mut Counts) {
         atoms.iter().for_each(|p| calls.counts.ranges.meet(&log, p));
         calls.counts.clears.meet(&log, &atoms, &worker);
         calls.counts.fields.meet(&log, f, &atoms, &line);
+        calls.counts.silences.meet(&log, f, &atoms, &line);
         if listing::count(&log) <= 400 {
             calls.listed(&log, q, &line, worker.rounds);
         } else {

@@ -165,7 +165,7 @@ pub fn full(d: &mut Draw, events: usize) -> Frames {
 }
 
 /// A question with the most structures held and the highest ceiling: four ranges, then four two-way ors, each joined with all behind it.
-/// With ranges of every value no structure is dropped.
+/// With ranges of every value no structure is dropped, unless stations are silent.
 fn deepest(d: &mut Draw, s: Shape) -> Vec<u8> {
     let every = d.below(2) == 0;
     let mut range = || if every { vec![1, d.below(s.stations) as u8, 0, 0, 255, 255] } else { made::range(d, s) };

@@ -49,12 +49,31 @@ fn clear(operands: &[u8], stations: usize) -> Result<Token, Fault> {
     Ok(Clear { sender, receiver })
 }
 
-/// Whether a range holds a value or a panel. Where lo is above hi it goes through zero: from lo up, and up to hi.
+/// Whether a number is in a range. Where lo is above hi it goes through zero: from lo up, and up to hi.
 pub fn within(lo: u16, hi: u16, v: u16) -> bool {
     if lo <= hi {
         return lo <= v && v <= hi;
     }
     lo <= v || v <= hi
+}
+
+/// What a station that is rebooting reports as its value. A panel of this number is one as any other.
+pub const SILENT: u16 = 0xFFFF;
+
+/// What the test of one value or panel says.
+#[derive(Clone, Copy, PartialEq)]
+pub enum Said {
+    Inside,
+    Outside,
+    Silent,
+}
+
+/// The test of one value or panel: a silent value is neither inside a range nor outside it.
+pub fn tested(field: Field, lo: u16, hi: u16, v: u16) -> Said {
+    if field == Field::Value && v == SILENT {
+        return Said::Silent;
+    }
+    if within(lo, hi, v) { Said::Inside } else { Said::Outside }
 }
 
 /// The tokens of exactly one formula.

@@ -21,4 +21,6 @@ pub mod peak;
 pub mod proved;
 pub mod ranges;
 pub mod sides;
+pub mod silences;
+pub mod silent;
 pub mod tally;

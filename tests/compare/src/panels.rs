@@ -16,7 +16,7 @@ const LONGEST: usize = 93;
 type Number = [u8; 2];
 
 /// The places of a question's tokens; where it is damaged, as far as these can be told.
-fn tokens(q: &[u8]) -> Vec<usize> {
+pub fn tokens(q: &[u8]) -> Vec<usize> {
     let (mut out, mut at) = (vec![], 1);
     while at < q.len() {
         out.push(at);
@@ -30,11 +30,11 @@ fn tokens(q: &[u8]) -> Vec<usize> {
 }
 
 /// The places of its ranges, tokens 01 and 08 that are not cut short.
-fn ranges(q: &[u8]) -> Vec<usize> {
+pub fn ranges(q: &[u8]) -> Vec<usize> {
     tokens(q).into_iter().filter(|&at| at + 6 <= q.len() && matches!(q[at], 1 | 8)).collect()
 }
 
-fn questions(fs: &mut Frames) -> impl Iterator<Item = &mut Vec<u8>> {
+pub fn questions(fs: &mut Frames) -> impl Iterator<Item = &mut Vec<u8>> {
     fs.iter_mut().filter(|f| f.first() == Some(&QUESTION))
 }
 

@@ -1,5 +1,5 @@
-//! Ranges in accepted questions: which ends were tried with a value or a panel of the station, under either sign.
-use crate::formula::{Placed, Token};
+//! Ranges in accepted questions: which ends were tried with a value or a panel of the station, under either sign. Silence tries none.
+use crate::formula::{Placed, Token, SILENT};
 use crate::log::{Field, Log};
 use crate::tally::signed;
 
@@ -26,7 +26,7 @@ impl Ranges {
         if field == Field::Panel && !log.panels {
             return;
         }
-        let has = |v: u16| log.history[station].iter().any(|e| e.field(field) == v);
+        let has = |v: u16| (field == Field::Panel || v != SILENT) && log.history[station].iter().any(|e| e.field(field) == v);
         let (before, after) = (lo.wrapping_sub(1), hi.wrapping_add(1));
         let some_outside = after != lo;
         let tried = [has(lo), some_outside && has(before), has(hi), some_outside && has(after), !some_outside];

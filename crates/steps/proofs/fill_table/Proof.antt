@@ -13,11 +13,11 @@ use Rattle.steps.proofs.fill_table.Statement.{statement}
 use Rattle.steps.proofs.fill_table.Tie as tie
 
 abbrev Inv-loop : tie.InvT-loop
-Inv-loop table₀ values at count sign lo hi last₀ k₀ table last k =
-    (k ≤ count + 1) × (length table ≡ 256) × (last ≡ entry (λ j. passes sign lo hi (getD values (at + j) 0)) count k) × ((j : ℕ) → k ≤ j → j < 256 → getD table j 0 ≡ entry (λ i. passes sign lo hi (getD values (at + i) 0)) count j)
+Inv-loop table₀ values at count sign a lo hi last₀ k₀ table last k =
+    (k ≤ count + 1) × (length table ≡ 256) × (last ≡ entry (λ j. passes sign a lo hi (getD values (at + j) 0)) count k) × ((j : ℕ) → k ≤ j → j < 256 → getD table j 0 ≡ entry (λ i. passes sign a lo hi (getD values (at + i) 0)) count j)
 
 abbrev μ-loop : tie.MeasureT-loop
-μ-loop table₀ values at count sign lo hi last₀ k₀ table last k = k
+μ-loop table₀ values at count sign a lo hi last₀ k₀ table last k = k
 
 add-k : tie.Need-add-k Inv-loop μ-loop
 add-k c = search needs
@@ -56,7 +56,7 @@ loop-again : tie.Need-loop-again Inv-loop μ-loop
 loop-again c =
     let a = c .before .before .before .before .before .before .before .args in
     let v = c .before .before .before .before .loop in
-    let p : ℕ → Bool = λ j. passes (a .sign) (a .lo) (a .hi) (getD (a .values .now) (a .at + j) 0) in
+    let p : ℕ → Bool = λ j. passes (a .sign) (a .a) (a .lo) (a .hi) (getD (a .values .now) (a .at + j) 0) in
     let e : v .k ≡ v .k - 1 + 1 = omega arith in
     let h : v .k - 1 ≤ a .count = omega arith in
     let f : c .if1 .last ≡ entry p (a .count) (v .k - 1) =
