@@ -110,7 +110,7 @@ pub fn print_case(log: &[u8]) {
     io::write_all(1, b"\n");
     let mut list = [0u8; Log::LIST];
     let mut store = [0u8; Log::STORE];
-    let loaded = load::load(Log::print_limits(), log, &mut list, &mut store);
+    let loaded = load::load(limits::print_limits(), log, &mut list, &mut store);
     let outcome = loaded.outcome;
     match outcome {
         load::Acceptance::Refused(refusal) => {

@@ -36,7 +36,7 @@ pub fn holds(log: &[u8], question: usize, cut: &[u8], ws: &mut [u8], bs: &mut [u
 {
     let mut list = [0u8; Log::LIST];
     let mut store = [0u8; Log::STORE];
-    let loaded = open_log(Log::limits(), log, question, &mut list, &mut store);
+    let loaded = open_log(limits::limits(), log, question, &mut list, &mut store);
     let outcome = loaded.outcome;
     match outcome {
         Acceptance::Refused(refusal) => HoldsAnswer::Refused(refusal),
@@ -52,7 +52,7 @@ pub fn holds(log: &[u8], question: usize, cut: &[u8], ws: &mut [u8], bs: &mut [u
                 return refused(Fault::Workspace);
             }
             let yes = test_cut(&list, &store, loaded, question, cut, ws, bs);
-            HoldsAnswer::told(yes)
+            replies::told(yes)
         }
     }
 }

@@ -32,7 +32,7 @@ pub fn read(log: &[u8], out: &mut [u8]) -> model::ReadAnswer
 {
     let mut list = [0u8; Log::LIST];
     let mut store = [0u8; Log::STORE];
-    let loaded = load::load(Log::limits(), log, &mut list, &mut store);
+    let loaded = load::load(limits::limits(), log, &mut list, &mut store);
     let outcome = loaded.outcome;
     match outcome {
         Acceptance::Accepted => {
@@ -74,7 +74,7 @@ pub fn write(list: &[u8], out: &mut [u8]) -> model::WriteAnswer
         });
     }
     let mut store = [0u8; Log::STORE];
-    match entries::try_entries(Log::limits(), list, &mut store) {
+    match entries::try_entries(limits::limits(), list, &mut store) {
         Acceptance::Accepted => {
             if out.len() < Log::BYTES {
                 return model::WriteAnswer::Refused(model::Refusal {

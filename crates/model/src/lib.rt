@@ -1,11 +1,4 @@
 // A log's limits, and the answers that the operations hand back.
-ghost use mathlib.Core.Path.{_≡_};
-ghost use mathlib.Core.List.{[], _∷_};
-ghost use lib.ListN.{replicate};
-ghost use Rattle.model.specs.Limits.{limits, printLimits};
-ghost use Rattle.model.specs.Answer.{yesNo};
-ghost use Rattle.model.specs.Reply.{gives, number, holdsReply};
-
 // The limits of a log, as one value.
 pub struct Limits {
     pub stations: usize,
@@ -88,41 +81,6 @@ impl Log {
     pub const CUTS: usize = 16 * Log::STATIONS;
 
     pub const FRAME: usize = 3 + Log::CUTS + 4;
-
-    // The limits of the definitions are those of the type.
-    pub fn limits() -> Limits
-        ensures { λ r. ⌜ r ≡ limits ⌝ }
-    {
-        Limits {
-            stations: Log::STATIONS,
-            events: Log::EVENTS,
-            messages: Log::MESSAGES,
-            questions: Log::QUESTIONS,
-            bytes: Log::BYTES,
-            list: Log::LIST,
-        }
-    }
-
-    // The printing program's likewise.
-    pub fn print_limits() -> Limits
-        ensures { λ r. ⌜ r ≡ printLimits ⌝ }
-    {
-        Limits {
-            stations: Log::STATIONS,
-            events: Log::PRINT_EVENTS,
-            messages: Log::MESSAGES,
-            questions: Log::QUESTIONS,
-            bytes: Log::PRINT_BYTES,
-            list: Log::PRINT_LIST,
-        }
-    }
-
-    // The cut that holds no event.
-    pub fn empty_cut() -> [u8; 8]
-        ensures { λ r. ⌜ r ≡ replicate (limits .stations) 0 ⌝ }
-    {
-        [0u8; Log::STATIONS]
-    }
 }
 
 // What a range looks at: 01 at a station's value, 08 at its panel.
@@ -156,32 +114,6 @@ pub enum Fault {
     FrameList,
     Message,
     Unworkable,
-}
-
-impl Fault {
-    // Its number in document 01.
-    pub fn number(self) -> u8
-        ensures { λ r. ⌜ r ≡ number self ⌝ }
-    {
-        match self {
-            Fault::LongLog => 1,
-            Fault::LineForm => 2,
-            Fault::CheckByte => 3,
-            Fault::Kind => 4,
-            Fault::Header => 5,
-            Fault::Event => 6,
-            Fault::Clock => 7,
-            Fault::Formula => 8,
-            Fault::Size => 9,
-            Fault::NoQuestion => 10,
-            Fault::Workspace => 11,
-            Fault::Output => 12,
-            Fault::Cut => 13,
-            Fault::FrameList => 14,
-            Fault::Message => 15,
-            Fault::Unworkable => 16,
-        }
-    }
 }
 
 // A fault, and the line where it stands, or 0.
@@ -229,17 +161,4 @@ pub enum HoldsAnswer {
     Yes,
     No,
     Refused(Refusal),
-}
-
-impl HoldsAnswer {
-    // What is said of a cut.
-    pub fn told(yes: bool) -> HoldsAnswer
-        ensures { λ r. ⌜ holdsReply r ≡ gives (yesNo yes ∷ []) ⌝ }
-    {
-        if yes {
-            HoldsAnswer::Yes
-        } else {
-            HoldsAnswer::No
-        }
-    }
 }

@@ -23,7 +23,7 @@ fn packed_refusal(r: Refusal) -> u64
     ensures { λ v. ⌜ ((widths : List ℕ) → v ≡ packed widths (refusal r)) ⌝ }
 {
     let f = r.fault;
-    f.number() as u64 * HIGHEST + r.line as u64
+    replies::number(f) as u64 * HIGHEST + r.line as u64
 }
 
 // Read's four values, the first in the lowest byte.

@@ -20,12 +20,12 @@ pub fn print_log(log: &[u8], out: &mut [u8; PRINTED]) -> usize
 {
     let mut list = [0u8; Log::LIST];
     let mut store = [0u8; Log::STORE];
-    let loaded = load::load(Log::print_limits(), log, &mut list, &mut store);
+    let loaded = load::load(limits::print_limits(), log, &mut list, &mut store);
     let outcome = loaded.outcome;
     match outcome {
         load::Acceptance::Refused(refusal) => {
             let fault = refusal.fault;
-            line::put_refusal(fault.number(), refusal.line, out)
+            line::put_refusal(replies::number(fault), refusal.line, out)
         }
         load::Acceptance::Accepted => { answer_all(&list, &store, loaded, out) }
     }

@@ -127,7 +127,7 @@ fn print_output(out: &[u8], len: usize) {
 pub fn print_refusal(r: Refusal) {
     let f = r.fault;
     io::write_all(1, b" refused");
-    print_number(f.number() as usize);
+    print_number(replies::number(f) as usize);
     print_number(r.line);
 }
 

@@ -1,7 +1,7 @@
 -- `told` meets its contract: the number of its reply is that of yes or no. Assumes nothing.
 use mathlib.Core.Path.{refl}
-use Rattle.model.proofs.HoldsAnswer.told.Statement.{statement}
-use Rattle.model.proofs.HoldsAnswer.told.Tie as tie
+use Rattle.replies.proofs.told.Statement.{statement}
+use Rattle.replies.proofs.told.Tie as tie
 
 returns : tie.Need-returns
 returns c = rw (c .if1 .taken) refl
