@@ -1,7 +1,7 @@
 -- Where no value is FFFF each formula is true or false at each cut, and it is true exactly where it was before silent stations were
 -- told apart: the definition of then stands here, for this statement.
 use mathlib.Core.Path.{_≡_, refl}
-use mathlib.Core.Logic.{_↔_, _⊎_, inl, inr}
+use mathlib.Core.Logic.{_↔_, _⊎_, inl, inr, ⊎-map, ⊎-swap, Iff·rfl, Iff·and, Iff·not}
 use Prim.Native.Nat.{ℕ}
 use mathlib.Core.Bool.{Bool, true, false, not as negated}
 use borrow.Author.Tests.{ne-eqb}
@@ -18,7 +18,7 @@ use Rattle.model.proofs.Truth.{never-both}
 use Rattle.lattice.proofs.Tests.{yes-or-no, not-true}
 use Rattle.lattice.proofs.Ranges.{found-inside, found-outside}
 use Rattle.lattice.proofs.Search.{possibly-or-not}
-use Rattle.lattice.proofs.Theorem.{both-iff, either-iff, never-iff, possibly-iff}
+use Rattle.lattice.proofs.Theorem.{either-iff, possibly-iff}
 
 -- No station's value is FFFF, neither the first nor that of an event.
 abbrev pub NoneSilent : Computation → Type 0
@@ -59,7 +59,7 @@ module _ (K : Computation) (spoken : NoneSilent K) where
   -- TRUE OR FALSE
 
   atom-or-false : (a : Atom) (c : Cut) → (isTrue K a c ≡ true) ⊎ (isFalse K a c ≡ true)
-  atom-or-false a c = rw (same-true a c, same-false a c) (elim (yes-or-no (wasTrue K a c)) [ inl p ↦ inl p | inr p ↦ inr (not-true (wasTrue K a c) .1 p) ])
+  atom-or-false a c = rw (same-true a c, same-false a c) (⊎-map (λ p. p) (not-true (wasTrue K a c) .1) (yes-or-no (wasTrue K a c)))
 
   is-true : (f : Formula) (c : Cut) → True K f c ⊎ False K f c → Dec (True K f c)
   is-true f c (inl t) = yes t
@@ -71,7 +71,7 @@ module _ (K : Computation) (spoken : NoneSilent K) where
 
   pub true-or-false : (f : Formula) (c : Cut) → True K f c ⊎ False K f c
   true-or-false (atom a) c = atom-or-false a c
-  true-or-false (not f) c = elim (true-or-false f c) [ inl t ↦ inr t | inr u ↦ inl u ]
+  true-or-false (not f) c = ⊎-swap (true-or-false f c)
   true-or-false (and f g) c = elim (true-or-false f c) [
     | inl t ↦ elim (true-or-false g c) [ inl v ↦ inl (t, v) | inr v ↦ inr (inr v) ]
     | inr u ↦ inr (inl u)
@@ -92,12 +92,12 @@ module _ (K : Computation) (spoken : NoneSilent K) where
   )
 
   pub true-as-before : (f : Formula) (c : Cut) → True K f c ↔ WasTrue K f c
-  true-as-before (atom a) c = rw (same-true a c) (λ t. t, λ t. t)
+  true-as-before (atom a) c = rw (same-true a c) Iff·rfl
   true-as-before (not f) c = false-from f c (true-as-before f c)
-  true-as-before (and f g) c = both-iff (true-as-before f c) (true-as-before g c)
+  true-as-before (and f g) c = Iff·and (true-as-before f c) (true-as-before g c)
   true-as-before (or f g) c = either-iff (true-as-before f c) (true-as-before g c)
   true-as-before (possibly f) c = possibly-iff K (True K f) (WasTrue K f) (true-as-before f) c
-  true-as-before (always f) c = never-iff (possibly-iff K (False K f) (λ d. WasTrue K f d → ⊥) (λ d. false-from f d (true-as-before f d)) c)
+  true-as-before (always f) c = Iff·not (possibly-iff K (False K f) (λ d. WasTrue K f d → ⊥) (λ d. false-from f d (true-as-before f d)) c)
 
   pub false-as-before : (f : Formula) (c : Cut) → False K f c ↔ (WasTrue K f c → ⊥)
   false-as-before f c = false-from f c (true-as-before f c)

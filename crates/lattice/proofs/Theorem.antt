@@ -2,7 +2,7 @@
 -- formula are satisfied where it is true, as true, and where it is false, as false, if each atom can be worked out under its sign.
 -- Neither part looks at a sign that is not used.
 use mathlib.Core.Path.{_≡_, sym, subst}
-use mathlib.Core.Logic.{_↔_, _⊎_, inl, inr}
+use mathlib.Core.Logic.{_↔_, _⊎_, ⊎-map, Iff·and, Iff·not}
 use mathlib.Core.Bool.{Bool, true, false}
 use mathlib.Core.List.{List}
 use Rattle.model.specs.Cut.{Cut}
@@ -37,14 +37,8 @@ Sat K (impossible p) c = Possibly K (Sat K p) c → ⊥
 
 -- EQUIVALENCES UNDER THE SIGNS
 
-pub both-iff : {A B P Q : Type 0} → A ↔ P → B ↔ Q → (A × B) ↔ (P × Q)
-both-iff i k = (λ u. (i .0 (u .0), k .0 (u .1)), λ u. (i .1 (u .0), k .1 (u .1)))
-
 pub either-iff : {A B P Q : Type 0} → A ↔ P → B ↔ Q → (A ⊎ B) ↔ (P ⊎ Q)
-either-iff i k = (λ u. elim u [ inl v ↦ inl (i .0 v) | inr v ↦ inr (k .0 v) ], λ u. elim u [ inl v ↦ inl (i .1 v) | inr v ↦ inr (k .1 v) ])
-
-pub never-iff : {A P : Type 0} → A ↔ P → (A → ⊥) ↔ (P → ⊥)
-never-iff i = (λ n u. n (i .1 u), λ n u. n (i .0 u))
+either-iff i k = (⊎-map (i .0) (k .0), ⊎-map (i .1) (k .1))
 
 pub possibly-iff : (K : Computation) (P Q : Cut → Type 0) → ((d : Cut) → P d ↔ Q d) → (c : Cut) → Possibly K P c ↔ Possibly K Q c
 possibly-iff K P Q h c = (λ u. (u .0, u .1, u .2, h (u .0) .0 (u .3)), λ u. (u .0, u .1, u .2, h (u .0) .1 (u .3)))
@@ -83,17 +77,17 @@ module _ (K : Computation) (ok : Valid K) where
     pub sat-true : (f : Formula) → workable (asTrue f) ≡ true → (c : Cut) → Sat K (asTrue f) c ↔ True K f c
     sat-true (atom a) w c = literal-iff true a c w
     sat-true (not f) w c = sat-false f w c
-    sat-true (and f g) w c = let s = sides (asTrue f) (asTrue g) w in both-iff (sat-true f (s .0) c) (sat-true g (s .1) c)
+    sat-true (and f g) w c = let s = sides (asTrue f) (asTrue g) w in Iff·and (sat-true f (s .0) c) (sat-true g (s .1) c)
     sat-true (or f g) w c = let s = sides (asTrue f) (asTrue g) w in either-iff (sat-true f (s .0) c) (sat-true g (s .1) c)
     sat-true (possibly f) w c = possibly-iff K (Sat K (asTrue f)) (True K f) (λ d. sat-true f w d) c
-    sat-true (always f) w c = never-iff (possibly-iff K (Sat K (asFalse f)) (False K f) (λ d. sat-false f w d) c)
+    sat-true (always f) w c = Iff·not (possibly-iff K (Sat K (asFalse f)) (False K f) (λ d. sat-false f w d) c)
 
     pub sat-false : (f : Formula) → workable (asFalse f) ≡ true → (c : Cut) → Sat K (asFalse f) c ↔ False K f c
     sat-false (atom a) w c = literal-iff false a c w
     sat-false (not f) w c = sat-true f w c
     sat-false (and f g) w c = let s = sides (asFalse f) (asFalse g) w in either-iff (sat-false f (s .0) c) (sat-false g (s .1) c)
-    sat-false (or f g) w c = let s = sides (asFalse f) (asFalse g) w in both-iff (sat-false f (s .0) c) (sat-false g (s .1) c)
-    sat-false (possibly f) w c = never-iff (possibly-iff K (Sat K (asTrue f)) (True K f) (λ d. sat-true f w d) c)
+    sat-false (or f g) w c = let s = sides (asFalse f) (asFalse g) w in Iff·and (sat-false f (s .0) c) (sat-false g (s .1) c)
+    sat-false (possibly f) w c = Iff·not (possibly-iff K (Sat K (asTrue f)) (True K f) (λ d. sat-true f w d) c)
     sat-false (always f) w c = possibly-iff K (Sat K (asFalse f)) (False K f) (λ d. sat-false f w d) c
 
   -- The basis of a formula is a basis of the cuts at which it is true.

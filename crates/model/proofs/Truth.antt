@@ -1,10 +1,8 @@
 -- Truth and falsity: possibly and always take in the cut itself, always asks for no more than that nothing is false, and nothing is both true and false.
-use mathlib.Core.Path.{_≡_, refl}
+use mathlib.Core.Path.{_≡_}
 use mathlib.Core.Logic.{inl, inr}
 use native.Mathlib.Nat.{le-refl}
-use native.Mathlib.Omega.{arith}
-use Prim.Native.Nat.{ℕ}
-use mathlib.Core.Bool.{Bool, true, false, not as negated}
+use mathlib.Core.Bool.{Bool, true, false, false≢true, not as negated}
 use Rattle.model.specs.declared.Finding.{Finding}
 use Rattle.model.specs.declared.Finding.the-variants.{Inside, Outside, Silent}
 use Rattle.model.specs.Atom.{Atom, test, seen, isInside, isOutside, isTrue, isFalse}
@@ -27,23 +25,20 @@ always-unless-false K f c never = λ u. never (u .0) (u .1) (u .2) (u .3)
 
 -- NEVER BOTH
 
-true-false : {b : Bool} → b ≡ true → b ≡ false → ⊥
-true-false p q = let z : _≡_ {A = ℕ} 0 1 = cc in omega arith
-
 found-once : (x : Finding) → isInside x ≡ true → isOutside x ≡ true → ⊥
 unfolding isInside isOutside
-found-once Inside p q = true-false q refl
-found-once Outside p q = true-false p refl
-found-once Silent p q = true-false p refl
+found-once Inside p q = false≢true q
+found-once Outside p q = false≢true p
+found-once Silent p q = false≢true p
 
-negated-false : (b : Bool) → b ≡ true → negated b ≡ true → ⊥
-negated-false true p q = true-false q refl
-negated-false false p q = true-false p refl
+not-both : (b : Bool) → b ≡ true → negated b ≡ true → ⊥
+not-both true p q = false≢true q
+not-both false p q = false≢true p
 
 atom-once : (K : Computation) (a : Atom) (c : Cut) → isTrue K a c ≡ true → isFalse K a c ≡ true → ⊥
 unfolding isTrue isFalse
 atom-once K (inRange a s lo hi) c = found-once (test a lo hi (seen a (report K s (c ! s))))
-atom-once K (clear i j) c = negated-false (isTrue K (clear i j) c)
+atom-once K (clear i j) c = not-both (isTrue K (clear i j) c)
 
 pub never-both : (K : Computation) (f : Formula) (c : Cut) → True K f c → False K f c → ⊥
 never-both K (atom a) c t u = atom-once K a c t u
