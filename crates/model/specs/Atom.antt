@@ -68,6 +68,7 @@ within lo hi v = cond (leb lo hi) (between lo hi v) (leb lo v || leb v hi)
 unfoldable pub test : Aspect → ℕ → ℕ → ℕ → Finding
 test a lo hi v = cond (isSilent a v) Silent (cond (within lo hi v) Inside Outside)
 
+-- Did the test say inside; did it say outside?
 unfoldable pub isInside : Finding → Bool
 isInside Inside = true
 isInside Outside = false
