@@ -67,7 +67,7 @@ def at_every_limit(messages=0, panels=False, values=None):
 def examples():
     """The logs of examples/, each with the lines that README.md shows for it."""
     shown = re.findall(r"^    \$ \./answer\.sh (\S+)\n((?:    \S+\n)+)", (ROOT / "README.md").read_text(), re.M)
-    if sorted(name for name, _ in shown) != sorted(str(path.relative_to(ROOT)) for path in (ROOT / "examples").iterdir()):
+    if sorted(name for name, _ in shown) != sorted(str(path.relative_to(ROOT)) for path in (ROOT / "examples").glob("*.log")):
         sys.exit("README.md does not show each log of examples/ once")
     for name, lines in shown:
         yield name, (ROOT / name).read_bytes(), lines.replace(" ", "").encode()

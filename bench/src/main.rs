@@ -23,7 +23,6 @@ use check::Seen;
 use codes::{cells, filled, head, ratio_names, PEERS};
 use compare::log::PROGRAM;
 use compare::operations::WORKSPACE;
-use compare::proved;
 use counted::{Memory, Program, MOMENTS};
 use std::path::Path;
 use std::process::{exit, Command};
@@ -77,7 +76,7 @@ fn short(rows: &[Row], programs: &[Program], memory: &[Memory]) -> String {
 
 /// What is not there, each with what to run or install.
 fn missing(folder: &str) -> Vec<String> {
-    let mut all: Vec<String> = proved::MISSING.into_iter().map(String::from).collect();
+    let mut all: Vec<String> = moment::MISSING.into_iter().map(String::from).collect();
     if !Path::new(MOMENTS).exists() {
         all.push(format!("{MOMENTS} is not there: run `rt check moments`, and this from the repository's root"));
     }

@@ -3,7 +3,7 @@ use crate::codes::{Peer, PEERS};
 use crate::{arena, refuse};
 use compare::log::{OPERATIONS, QUESTIONS};
 use compare::operations::{BARS, LINE, WORKSPACE};
-use compare::proved;
+use moment::lent as proved;
 use std::io::{stdin, stdout, Read, Write};
 
 fn input() -> Vec<u8> {

@@ -7,7 +7,7 @@ use compare::listing;
 use compare::log::{line, Log, OPERATIONS};
 use compare::made::{self, Shape};
 use compare::operations::{BARS, LINE, WORKSPACE};
-use compare::proved;
+use moment::lent as proved;
 use std::fmt::Write;
 use std::process::{Command, Output};
 

@@ -7,6 +7,7 @@ use crate::fault::{Refusal, KINDS};
 use crate::fields::Fields;
 use crate::formula::{self, placed, Token, Tokens};
 use crate::large;
+use crate::layer::Layer;
 use crate::lent::Buffers;
 use crate::listing;
 use crate::log::{Log, OPERATIONS, PROGRAM, STATIONS};
@@ -15,11 +16,11 @@ use crate::messages;
 use crate::operations::{self as here, answer_line, costs, Costs, BARS, WORKSPACE};
 use crate::panels;
 use crate::peak::{Peak, Peaks};
-use crate::proved::{self, Reply};
 use crate::ranges::Ranges;
 use crate::sides::{Side, Sides, FIXED_CELLS};
 use crate::silences::Silences;
 use crate::silent;
+use moment::lent as proved;
 use std::fmt::Debug;
 
 /// What a seed gives: a log and a frame list, and the draws that follow.
@@ -102,7 +103,7 @@ use Lends::*;
 /// What was seen: calls, accepted logs, Holds' no and yes, answers that list no, one and several cuts, workspaces refused for one cell
 /// less than forecast and accepted with just these cells, each fault, without a header of kind 11 and with one, peaks, sides of limits,
 /// ends of ranges, tokens 07 and 08, silent stations, and by their stations the accepted logs of more events than the program takes, and
-/// those with a header of kind 11.
+/// those with a header of kind 11; and apart from all these, what the safe layer said.
 pub struct Counts {
     pub calls: usize,
     pub accepted: usize,
@@ -118,6 +119,7 @@ pub struct Counts {
     pub silences: Silences,
     pub large: [usize; STATIONS],
     pub panels: [usize; STATIONS],
+    pub layer: Layer,
 }
 
 impl Counts {
@@ -125,7 +127,10 @@ impl Counts {
         let (peaks, sides, ranges) = (Peaks::default(), Sides::default(), Ranges::default());
         let (clears, fields, silences) = (Clears::default(), Fields::default(), Silences::default());
         let (holds, answers, limit, faults, large, panels) = ([0; 2], [0; 3], [0; 2], [[0; KINDS]; 2], [0; STATIONS], [0; STATIONS]);
-        Counts { calls: 0, accepted: 0, holds, answers, limit, faults, peaks, sides, ranges, clears, fields, silences, large, panels }
+        Counts {
+            calls: 0, accepted: 0, holds, answers, limit, faults, peaks, sides, ranges, clears, fields, silences, large, panels,
+            layer: Layer::default(),
+        }
     }
 
     fn meet_log(&mut self, log: &Log, bytes: usize) {
@@ -161,6 +166,13 @@ impl Counts {
         }
         assert_eq!(*proved, here.map_err(|Refusal(fault, line)| (fault.number(), line)), "{what}: proved and here");
     }
+}
+
+/// Values, or a refusal's number and line.
+type Reply<T> = Result<T, (u8, u32)>;
+
+fn told<T, V>(reply: Result<T, moment::Refusal>, values: impl FnOnce(T) -> V) -> Reply<V> {
+    reply.map(values).map_err(|refusal| (refusal.number, refusal.line))
 }
 
 fn number(digits: &[u8]) -> usize {
@@ -202,7 +214,7 @@ impl Calls<'_> {
     fn read(&mut self) {
         let out = &mut self.lent.list;
         out.lend(&mut self.draw, false);
-        let reply = proved::read(self.log, out.part());
+        let reply = told(proved::read(self.log, out.part()), |r| [r.stations, r.events, r.questions, r.list]);
         let here = here::read(self.log, out.part_before());
         self.counts.sides.meet_read(self.log, out.size, &here);
         self.counts.same("Read", self.panels, &reply, here);
@@ -212,7 +224,7 @@ impl Calls<'_> {
     fn write(&mut self, list: &[u8]) {
         let out = &mut self.lent.lines;
         out.lend(&mut self.draw, false);
-        let reply = proved::write(list, out.part());
+        let reply = told(proved::write(list, out.part()), |n| n);
         let here = here::write(list, out.part_before());
         self.counts.sides.meet_write(list, out.size, &here);
         self.counts.same("Write", list.get(1) == Some(&0x11), &reply, here);
@@ -245,7 +257,7 @@ impl Calls<'_> {
     }
 
     fn forecast(&mut self, q: usize) -> Option<Costs> {
-        let reply = proved::forecast(self.log, q);
+        let reply = told(proved::forecast(self.log, q), |f| [f.width, f.bars, f.held, f.cells, f.ceiling]);
         self.counts.same("Forecast", self.panels, &reply, here::forecast(self.log, q));
         reply.ok()
     }
@@ -255,7 +267,7 @@ impl Calls<'_> {
         self.lend_room(q, lends);
         let Buffers { line: out, ws, bs, .. } = &mut *self.lent;
         out.lend(&mut self.draw, lends != About);
-        let reply = proved::answer(self.log, q, ws.part(), bs.part(), out.part());
+        let reply = told(proved::answer(self.log, q, ws.part(), bs.part(), out.part()), |n| n);
         let here = here::answer(self.log, q, ws.size, bs.size, out.part_before());
         self.counts.same("Answer", self.panels, &reply, here);
         out.same("Answer's output");
@@ -271,14 +283,11 @@ impl Calls<'_> {
     fn holds(&mut self, q: usize, cut: &[u8], lends: Lends) -> Option<bool> {
         self.lend_room(q, lends);
         let Buffers { ws, bs, .. } = &mut *self.lent;
-        let reply = proved::holds(self.log, q, cut, ws.part(), bs.part());
+        let reply = told(proved::holds(self.log, q, cut, ws.part(), bs.part()), |yes| yes);
         let here = here::holds(self.log, q, cut, ws.size, bs.size);
-        self.counts.same("Holds", self.panels, &reply, here.map(usize::from));
+        self.counts.same("Holds", self.panels, &reply, here);
         self.check_room(q, reply.err());
-        reply.ok().map(|yes| {
-            self.counts.holds[yes] += 1;
-            yes == 1
-        })
+        reply.ok().inspect(|yes| self.counts.holds[*yes as usize] += 1)
     }
 
     /// Calls with a question number, sizes and a cut that may be wrong.
@@ -344,17 +353,23 @@ pub fn compare(case: Case, lent: &mut Buffers, counts: &mut Counts) {
     let mut calls = Calls { log: &data, panels: data.starts_with(b"11"), cells: vec![], draw, lent, counts };
     calls.read();
     calls.write(&list);
-    let Ok(log) = Log::read(OPERATIONS, &data) else { return calls.odd(3, 3) };
+    let read = Log::read(OPERATIONS, &data);
+    calls.counts.layer.meet_log(&data, &read);
+    calls.counts.layer.meet_list(&list);
+    let Ok(log) = read else { return calls.odd(3, 3) };
     calls.counts.meet_log(&log, data.len());
     calls.cells = log.questions.iter().map(|f| costs(&log, f)[3]).collect();
     calls.odd(log.questions.len(), log.stations());
-    let step = if log.events > PROGRAM.events { 1 + log.questions.len() / 4 } else { 1 };
+    let (step, mut first) = (if log.events > PROGRAM.events { 1 + log.questions.len() / 4 } else { 1 }, true);
     for (q, f) in log.questions.iter().enumerate().skip(calls.draw.below(step)).step_by(step) {
         let costs = calls.forecast(q).expect("a forecast");
         calls.refused(q, log.stations());
         let line = calls.answer(q, Just).expect("an answer");
         let mut worker = Worker::new(&log);
-        worker.basis(&mut Tokens(f), true);
+        let basis = worker.basis(&mut Tokens(f), true);
+        if std::mem::take(&mut first) {
+            calls.counts.layer.meet_question(&data, &log, q, &worker, &basis);
+        }
         foretold(costs, &line, &worker);
         calls.counts.meet_question(f, costs, &worker, cuts_listed(&line));
         let atoms = placed(f);

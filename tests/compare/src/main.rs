@@ -39,9 +39,9 @@ fn asked(words: &[String]) -> Result<(u64, u64), String> {
 }
 
 /// What was met too seldom for the run to say much: an outcome, a fault, one of panels with a header of kind 11, a refusal with such a
-/// header, an end of a range or a way that a token 07, a token 08 or silence is met less than ten times in 4,000 logs, a fault of panels with
-/// a header of kind 10, a peak or a number of stations of large logs or of those with a header of kind 11 less than once, a side of a limit
-/// less often than is wanted.
+/// header, an end of a range, a way that a token 07, a token 08 or silence is met or what the safe layer says less than ten times in 4,000
+/// logs, a fault of panels with a header of kind 10, a peak or a number of stations of large logs or of those with a header of kind 11 less
+/// than once, a side of a limit less often than is wanted.
 fn seldom(logs: u64, counts: &Counts) -> Vec<String> {
     let [no, yes] = counts.holds;
     let [none, one, several] = counts.answers;
@@ -65,9 +65,10 @@ fn seldom(logs: u64, counts: &Counts) -> Vec<String> {
     let ranges = counts.ranges.figures().flat_map(|(sort, figures)| prefixed(sort, figures));
     let tokens = [("07", counts.clears.figures()), ("08", counts.fields.figures()), ("08 told from", counts.fields.told())];
     let tokens = tokens.into_iter().flat_map(|(name, figures)| prefixed(name, figures));
+    let layer = prefixed("safe layer's", counts.layer.figures());
     let seen = outcomes.chain(faults).chain(of_panels).chain(refusals).chain(peaks).chain(sides);
     let silences = counts.silences.figures().into_iter().flat_map(|(sort, figures)| prefixed(sort, figures));
-    let seen = seen.chain(stations).chain(ranges).chain(tokens).chain(silences);
+    let seen = seen.chain(stations).chain(ranges).chain(tokens).chain(silences).chain(layer);
     seen.filter(|(_, n, least)| (*n as u64) < logs / 4000 * least).map(|(name, n, _)| format!("{name} {n}")).collect()
 }
 
@@ -87,7 +88,8 @@ fn joined(figures: impl IntoIterator<Item = (String, usize)>) -> String {
 }
 
 fn report(logs: u64, counts: &Counts) {
-    let Counts { calls, accepted, holds, answers, limit, faults, peaks, sides, ranges, clears, fields, silences, large, panels } = counts;
+    let Counts { calls, accepted, holds, answers, limit, faults, peaks, sides, ranges, clears, fields, silences, large, panels, layer } =
+        counts;
     let reached: Vec<String> = WANTED.iter().map(|(p, _)| format!("{p:?} {} ({})", peaks.of(*p).most, peaks.of(*p).times)).collect();
     println!("{logs} logs, {accepted} accepted, {calls} calls, all equal");
     println!("Holds no and yes: {holds:?}; answers with no, one, several cuts: {answers:?}");
@@ -106,6 +108,7 @@ fn report(logs: u64, counts: &Counts) {
     println!("tokens 08: {}", joined(fields.figures()));
     println!("answers that tell the panel from {}", joined(fields.told()));
     silences.figures().into_iter().for_each(|(sort, figures)| println!("{sort}: {}", joined(figures)));
+    println!("by the safe layer, all equal too: {}", joined(layer.figures()));
     if logs < 4000 {
         println!("under 4000 logs: how often each was met is not judged");
     }

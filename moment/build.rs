@@ -2,7 +2,7 @@
 //! without it, to say so when they are run.
 
 fn main() {
-    let folder = concat!(env!("CARGO_MANIFEST_DIR"), "/../../target/staticlib");
+    let folder = concat!(env!("CARGO_MANIFEST_DIR"), "/../target/staticlib");
     println!("cargo:rerun-if-changed={folder}/libexports.a");
     println!("cargo:rustc-check-cfg=cfg(linked)");
     if std::path::Path::new(folder).join("libexports.a").exists() {
