@@ -1,6 +1,8 @@
 """Golden files of floor: what it prints for given files, to the byte.
 
 tests/floor/errors, refusals    NAME.txt   `floor compile NAME.txt` there: nothing printed, exit code 2 or 1, standard error as NAME.out
+tests/floor/logs                NAME.log   `floor explain NAME.log` there: nothing printed, exit code 1, standard error as NAME.out
+tests/floor/names               NAME.txt   `floor explain` of examples/conveyor.log with these names, likewise with exit code 2
 tests/floor/import              NAME.args  `floor import` with these words there: NAME.out, NAME.err and NAME.code
 tests/floor/answers             NAME.out   `floor ask` for each day of examples/, `floor explain` for each log
 """
@@ -13,10 +15,10 @@ FOLDER = ROOT / "tests" / "floor"
 EXAMPLES = ROOT / "examples"
 
 
-def compiled(runs, folder, code):
-    """Each day of a folder that is at fault, and what is due of it."""
-    for path in sorted((FOLDER / folder).glob("*.txt")):
-        done = runs.run("compile", path.name, cwd=path.parent)
+def failed(runs, folder, code, *words):
+    """Each file of a folder that is at fault, given behind these words, and what is due of it."""
+    for path in sorted(path for path in (FOLDER / folder).iterdir() if path.suffix in (".txt", ".log")):
+        done = runs.run(*words, path.name, cwd=path.parent)
         yield f"{folder}/{path.name}", path.with_suffix(".out"), done.stderr, (done.returncode, done.stdout), (code, b"")
 
 
@@ -45,8 +47,10 @@ def answered(runs):
 
 def files(runs):
     """A name, the golden file, what is printed, and what else came of the run and is due."""
-    yield from compiled(runs, "errors", 2)
-    yield from compiled(runs, "refusals", 1)
+    yield from failed(runs, "errors", 2, "compile")
+    yield from failed(runs, "refusals", 1, "compile")
+    yield from failed(runs, "logs", 1, "explain")
+    yield from failed(runs, "names", 2, "explain", EXAMPLES / "conveyor.log")
     yield from imported(runs)
     yield from answered(runs)
 
