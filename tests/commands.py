@@ -55,10 +55,11 @@ def ended(runs):
 
 
 def screen(runs):
-    lines = runs.run("--help").stdout.decode().splitlines()
-    wide = [line for line in lines if len(line) > COLUMNS]
-    if len(lines) > ROWS or wide:
-        yield f"--help has {len(lines)} lines, {len(wide)} of them over {COLUMNS} columns"
+    for words in (["--help"], ["import", "--help"]):
+        lines = runs.run(*words).stdout.decode().splitlines()
+        wide = [line for line in lines if len(line) > COLUMNS]
+        if not lines or len(lines) > ROWS or wide:
+            yield f"{' '.join(words)} has {len(lines)} lines, {len(wide)} of them over {COLUMNS} columns"
 
 
 def shut(runs):
