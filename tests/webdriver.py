@@ -47,7 +47,7 @@ class Browser:
         self.driver = subprocess.Popen(["chromedriver", "--port=0"], stdout=subprocess.PIPE, stderr=subprocess.DEVNULL, text=True)
         try:
             ports = (re.search(r"successfully on port (\d+)", line) for line in self.driver.stdout)
-            self.base = f"http://127.0.0.1:{next(found for found in ports if found)[1]}/session"
+            self.base = f"http://localhost:{next(found for found in ports if found)[1]}/session"
             options = {"goog:chromeOptions": {"args": ARGUMENTS}, "goog:loggingPrefs": {"browser": "ALL"}}
             self.base += "/" + self.ask("POST", "", capabilities={"alwaysMatch": {"browserName": "chrome", **options}})["sessionId"]
         except BaseException:
