@@ -35,11 +35,6 @@ def parts(f, sign=True):
     return [[f if sign else (2, f)]]
 
 
-def plain(words):
-    """Words with one of two forms that mean the same: a part of a chain does not tell "not always P" and "possibly not P" apart."""
-    return words.replace("not possibly not ", "always ").replace("not always ", "possibly not ")
-
-
 def joined(row):
     return row[0] if len(row) == 1 else (3, joined(row[:-1]), row[-1])
 
@@ -75,12 +70,12 @@ class Told:
             for s in {about(p) for p in way} - {None}:
                 ranges = list(dict.fromkeys(p for p in way if about(p) == s))
                 some = [row for k in range(1, len(ranges) + 1) for row in itertools.combinations(ranges, k)]
-                self.quotable |= {plain(self.day.asked(joined(row))) for row in some}
+                self.quotable |= {self.day.asked(joined(row)) for row in some}
                 self.claims |= {self.day.asked(p).replace(" is ", " ", 1).replace(" panel ", " at panel ", 1) for p in ranges}
             for p in way:
-                self.quotable.add(plain(self.day.asked(p)))
+                self.quotable.add(self.day.asked(p))
                 for of in operands(p):
-                    self.quotable.add(plain(self.day.asked(of)))
+                    self.quotable.add(self.day.asked(of))
                     self.allow(of)
 
     def need(self, kind, so, told):
@@ -100,7 +95,7 @@ class Told:
         self.allow(f)
         for line in lines:
             for quoted in QUOTED.findall(line):
-                self.need("quoted", plain(quoted) in self.quotable, f"not a part: {quoted}")
+                self.need("quoted", quoted in self.quotable, f"not a part: {quoted}")
             for claim in CLAIM.findall(line):
                 self.need("claim", " ".join(claim) in self.claims, f"not a range: {' '.join(claim)}")
             named, own = [self.event(*found) for found in EVENT.findall(line)], OWN.search(line)
@@ -197,7 +192,7 @@ class Told:
         due = parts(f)
         headings = [f"    way {k} of {len(due)}: {self.day.asked(joined(way))}" for k, way in enumerate(due, 1)] if len(due) > 1 else []
         said = [line for line in lines if line.startswith("    way ")]
-        self.need("ways", [*map(plain, said)] == [*map(plain, headings)], f"{said} in place of {headings}")
+        self.need("ways", said == headings, f"{said} in place of {headings}")
 
     def alike(self, lines, why):
         """A way that is told to be ruled out as another one has to have its steps."""

@@ -27,10 +27,12 @@ pub enum Part {
     Range { inside: bool, aspect: Aspect, station: usize, lo: u16, hi: u16 },
     /// Nothing is on the way.
     Clear { from: usize, to: usize },
-    /// From the moment on P can still be true. The greatest moments of P are in the proved line; where there are none, why.
-    Possibly { of: Formula, line: String, moments: Vec<Vec<u8>>, why: Option<Why> },
-    /// From the moment on P is never true: the moment is contained in none of the greatest moments of P, which are in the proved line.
-    NotPossibly { of: Formula, line: String, moments: Vec<Vec<u8>> },
+    /// From the moment on P can still be true; `asked` is how that was put, possibly P or not always not P. The greatest moments of P are
+    /// in the proved line; where there are none, why.
+    Possibly { asked: Formula, of: Formula, line: String, moments: Vec<Vec<u8>>, why: Option<Why> },
+    /// From the moment on P is never true, asked as not possibly P or as always not P: the moment is contained in none of the greatest
+    /// moments of P, which are in the proved line.
+    NotPossibly { asked: Formula, of: Formula, line: String, moments: Vec<Vec<u8>> },
 }
 
 /// What rules out the moments that are contained in the moments chosen: a number of a part with possibly, and of one of its moments.

@@ -83,10 +83,10 @@ fn says(part: &Part, leaf: &Formula, sign: bool) -> bool {
             (inside, aspect, station, lo, hi) == (&sign, a, s, l, h)
         }
         (Part::Clear { from, to }, Formula::Clear { from: f, to: t }) => sign && (from, to) == (f, t),
-        (Part::Possibly { of, .. }, Formula::Possibly(p)) => sign && *of == **p,
-        (Part::Possibly { of, .. }, Formula::Always(p)) => !sign && not(p, of),
-        (Part::NotPossibly { of, .. }, Formula::Possibly(p)) => !sign && *of == **p,
-        (Part::NotPossibly { of, .. }, Formula::Always(p)) => sign && not(p, of),
+        (Part::Possibly { asked, of, .. }, Formula::Possibly(p)) => sign && asked == leaf && *of == **p,
+        (Part::Possibly { asked, of, .. }, Formula::Always(p)) => !sign && not(leaf, asked) && not(p, of),
+        (Part::NotPossibly { asked, of, .. }, Formula::Possibly(p)) => !sign && not(leaf, asked) && *of == **p,
+        (Part::NotPossibly { asked, of, .. }, Formula::Always(p)) => sign && asked == leaf && not(p, of),
         _ => false,
     }
 }
@@ -95,8 +95,8 @@ fn says(part: &Part, leaf: &Formula, sign: bool) -> bool {
 fn moments_of(log: &Log, part: &Part) -> Checked {
     match part {
         Part::Range { .. } | Part::Clear { .. } => Ok(()),
-        Part::NotPossibly { of, line, moments } => proved(log, of, line, moments),
-        Part::Possibly { of, line, moments, why: never } => {
+        Part::NotPossibly { of, line, moments, .. } => proved(log, of, line, moments),
+        Part::Possibly { of, line, moments, why: never, .. } => {
             proved(log, of, line, moments)?;
             match never {
                 Some(never) if moments.is_empty() => why(log, of, never),

@@ -26,14 +26,14 @@ fn part(part: &Part) -> Json {
             ("hi", Json::number(*hi)),
         ]),
         Part::Clear { from, to } => Json::object([("part", Json::text("clear")), ("from", count(*from)), ("to", count(*to))]),
-        Part::Possibly { of, line, moments, why } => Json::object([
+        Part::Possibly { of, line, moments, why, .. } => Json::object([
             ("part", Json::text("possibly")),
             ("of", bytes(of)),
             ("line", Json::text(line)),
             ("moments", cuts(moments)),
             ("why", why.as_ref().map_or(Json::Null, json)),
         ]),
-        Part::NotPossibly { of, line, moments } => {
+        Part::NotPossibly { of, line, moments, .. } => {
             Json::object([("part", Json::text("not possibly")), ("of", bytes(of)), ("line", Json::text(line)), ("moments", cuts(moments))])
         }
     }

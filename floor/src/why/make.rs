@@ -71,8 +71,8 @@ fn ruled_out_by(log: &Log, parts: &[Part], chosen: &[Choice], set: &[usize]) -> 
 fn complete(log: &Log, part: &mut Part) -> Result<(), String> {
     match part {
         Part::Range { .. } | Part::Clear { .. } => {}
-        Part::NotPossibly { of, line, moments } => Answer { line: *line, moments: *moments, .. } = asked(log, of)?,
-        Part::Possibly { of, line, moments, why: never } => {
+        Part::NotPossibly { of, line, moments, .. } => Answer { line: *line, moments: *moments, .. } = asked(log, of)?,
+        Part::Possibly { of, line, moments, why: never, .. } => {
             Answer { line: *line, moments: *moments, .. } = asked(log, of)?;
             *never = if moments.is_empty() { Some(why(log, of)?) } else { None };
         }

@@ -107,7 +107,7 @@ impl Sentences<'_> {
     }
 
     fn barred(&self, part: usize, moment: usize) -> String {
-        let Part::NotPossibly { of, line, moments } = &self.way.parts[part] else { return String::new() };
+        let Part::NotPossibly { of, line, moments, .. } = &self.way.parts[part] else { return String::new() };
         let (asked, fact) = (self.teller.quoted(&self.teller.asked(&self.way.parts[part])), self.teller.holds(of, ""));
         let at = format!("({}; proved: {line})", self.teller.events(&moments[moment]));
         if moments[moment] == self.teller.log.full() {

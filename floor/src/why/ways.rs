@@ -12,10 +12,10 @@ pub fn of(formula: &Formula, sign: bool) -> Option<Vec<Vec<Part>>> {
         (&Formula::Range { aspect, station, lo, hi }, inside) => Part::Range { inside, aspect, station, lo, hi },
         (&Formula::Clear { from, to }, true) => Part::Clear { from, to },
         (Formula::Clear { .. }, false) => return None,
-        (Formula::Possibly(p), true) => possibly((**p).clone()),
-        (Formula::Possibly(p), false) => not_possibly((**p).clone()),
-        (Formula::Always(p), true) => not_possibly(Formula::Not(p.clone())),
-        (Formula::Always(p), false) => possibly(Formula::Not(p.clone())),
+        (Formula::Possibly(p), true) => possibly(formula.clone(), (**p).clone()),
+        (Formula::Possibly(p), false) => not_possibly(Formula::Not(Box::new(formula.clone())), (**p).clone()),
+        (Formula::Always(p), true) => not_possibly(formula.clone(), Formula::Not(p.clone())),
+        (Formula::Always(p), false) => possibly(Formula::Not(Box::new(formula.clone())), Formula::Not(p.clone())),
     };
     Some(vec![vec![part]])
 }
@@ -24,10 +24,10 @@ fn pairs(left: &[Vec<Part>], right: &[Vec<Part>]) -> Vec<Vec<Part>> {
     left.iter().flat_map(|l| right.iter().map(move |r| [&l[..], r].concat())).collect()
 }
 
-fn possibly(of: Formula) -> Part {
-    Part::Possibly { of, line: String::new(), moments: vec![], why: None }
+fn possibly(asked: Formula, of: Formula) -> Part {
+    Part::Possibly { asked, of, line: String::new(), moments: vec![], why: None }
 }
 
-fn not_possibly(of: Formula) -> Part {
-    Part::NotPossibly { of, line: String::new(), moments: vec![] }
+fn not_possibly(asked: Formula, of: Formula) -> Part {
+    Part::NotPossibly { asked, of, line: String::new(), moments: vec![] }
 }

@@ -128,26 +128,15 @@ impl Teller<'_> {
         all.map_or(String::new(), |all| all.words(self.names))
     }
 
-    /// A part as it was asked for. "Always P" and "not possibly not P" are the same part, and so are "not always P" and "possibly not P":
-    /// the log's questions tell which it was.
+    /// A part as it was asked for.
     pub fn asked(&self, part: &Part) -> Formula {
-        let not = |of: Formula| Formula::Not(Box::new(of));
-        let in_questions = |formula: &Formula| self.log.questions.iter().any(|q| has(&q.formula, formula));
-        let always = |of: &Formula| match of {
-            Formula::Not(p) => Some(Formula::Always(p.clone())).filter(in_questions),
-            _ => None,
-        };
         match part {
             Part::Range { inside, aspect, station, lo, hi } => {
                 let range = Formula::Range { aspect: *aspect, station: *station, lo: *lo, hi: *hi };
-                if *inside { range } else { not(range) }
+                if *inside { range } else { Formula::Not(Box::new(range)) }
             }
             Part::Clear { from, to } => Formula::Clear { from: *from, to: *to },
-            Part::Possibly { of, .. } => {
-                let possibly = Formula::Possibly(Box::new(of.clone()));
-                if in_questions(&possibly) { possibly } else { always(of).map_or(possibly, not) }
-            }
-            Part::NotPossibly { of, .. } => always(of).unwrap_or_else(|| not(Formula::Possibly(Box::new(of.clone())))),
+            Part::Possibly { asked, .. } | Part::NotPossibly { asked, .. } => asked.clone(),
         }
     }
 
@@ -182,14 +171,4 @@ fn chosen(case: &Case, parts: &[usize]) -> Choice {
 fn first_number(way: &Way, used: &[usize], part: usize) -> usize {
     let count = |p: &usize| if let Part::Possibly { moments, .. } = &way.parts[*p] { moments.len() } else { 0 };
     1 + used.iter().filter(|p| **p < part).map(count).sum::<usize>()
-}
-
-/// Whether a formula is in another, or is it.
-fn has(formula: &Formula, part: &Formula) -> bool {
-    let inner: &[&Formula] = match formula {
-        Formula::Range { .. } | Formula::Clear { .. } => &[],
-        Formula::Not(p) | Formula::Possibly(p) | Formula::Always(p) => &[p],
-        Formula::And(p, q) | Formula::Or(p, q) => &[p, q],
-    };
-    formula == part || inner.iter().any(|p| has(p, part))
 }
