@@ -4,7 +4,7 @@ use structure::Shape;
 ghost use mathlib.Core.Path.{_≡_};
 ghost use mathlib.Core.List.{List, map};
 ghost use Prim.Native.Nat.{ℕ, _+_, _*_, _≤_};
-ghost use lib.ListN.{length, take, replicate};
+ghost use lib.ListN.{length, take};
 ghost use Rattle.model.specs.Limits.{limits};
 ghost use Rattle.model.specs.Formula.{Formula};
 ghost use Rattle.model.specs.Cut.{empty};
@@ -59,19 +59,12 @@ pub fn belongs_any(ws: &[u8], bs: &[u8], count: usize, x: Shape, cut: &[u8; 8]) 
     false
 }
 
-// The cut that holds no event.
-fn empty_cut() -> [u8; 8]
-    ensures { λ r. ⌜ r ≡ replicate (limits .stations) 0 ⌝ }
-{
-    [0u8; Log::STATIONS]
-}
-
 // Does the cut that holds no event belong to one of the structures?
 fn starts(ws: &[u8], bs: &[u8], count: usize, x: Shape) -> bool
     requires { ⌜ Stands x count (now ws) (now bs) ⌝ }
     ensures { λ r. ⌜ r ≡ belongsAny (standing (x .n) (take (x .n) (x .counts)) count (now (ws .entry)) (now (bs .entry))) (empty (x .n)) ⌝ }
 {
-    let cut = empty_cut();
+    let cut = Log::empty_cut();
     belongs_any(ws, bs, count, x, &cut)
 }
 

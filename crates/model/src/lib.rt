@@ -1,4 +1,8 @@
 // A log's limits, and the answers that the operations hand back.
+ghost use mathlib.Core.Path.{_≡_};
+ghost use Rattle.model.specs.Limits.{limits};
+ghost use Rattle.model.specs.Cut.{empty};
+
 // The limits of a log, as one value.
 pub struct Limits {
     pub stations: usize,
@@ -81,6 +85,13 @@ impl Log {
     pub const CUTS: usize = 16 * Log::STATIONS;
 
     pub const FRAME: usize = 3 + Log::CUTS + 4;
+
+    // The empty cut: it holds no event of any station.
+    pub fn empty_cut() -> [u8; 8]
+        ensures { λ r. ⌜ r ≡ empty (limits .stations) ⌝ }
+    {
+        [0u8; Log::STATIONS]
+    }
 }
 
 // What a range looks at: 01 at a station's value, 08 at its panel.
