@@ -1,3 +1,4 @@
 -- Laws that the proofs share.
+mod AtRow
 mod Looking
 mod Starts

@@ -4,32 +4,40 @@
 use cells::NONE;
 use cells::wide;
 use chaining::Station;
+use slots::Outcome;
 ghost use mathlib.Core.Path.{_≡_};
-ghost use mathlib.Core.Bool.{Bool, true, false, cond};
+ghost use mathlib.Core.Bool.{true, false, cond};
 ghost use mathlib.Core.List.{List};
-ghost use mathlib.Core.Option as option;
-ghost use mathlib.Core.Option.{Option};
 ghost use Prim.Native.Nat.{ℕ, _+_, _*_, _≤_, _<_};
-ghost use lib.ListN.{length, getD, take, drop};
-ghost use Rattle.model.specs.Cut.{Cut, join};
-ghost use Rattle.model.specs.Computation.{Computation, stations};
+ghost use lib.ListN.{length, getD};
+ghost use Rattle.model.specs.Computation.{Computation, clock};
 ghost use Rattle.model.specs.Structure.{Structure};
-ghost use Rattle.lattice.specs.OfStation.{ownRow, OfOwnRows};
-ghost use Rattle.lattice.specs.Chains.{Entry, lookup};
-ghost use Rattle.structure.specs.Layout.{decoded};
+ghost use Rattle.model.specs.Basis.{start};
 ghost use Rattle.structure.specs.Shaped.{Shaped};
-ghost use Rattle.slots.specs.Slots.{Small, Coded, Says, Offsets};
-ghost use Rattle.slots.specs.Pair.{Above, Intersected};
-ghost use Rattle.picking.specs.Formed.{Formed, Picks};
+ghost use Rattle.slots.specs.Pair.{Intersected};
+ghost use Rattle.picking.specs.Formed.{Formed};
 ghost use Rattle.picking.specs.Rows.{rowOf};
-ghost use Rattle.chaining.specs.Table.{chainOf, Chained, Low};
-ghost use Rattle.lookups.specs.Found.{placeOf, Joined, Looked, Found};
+ghost use Rattle.chaining.specs.Table.{Low};
+ghost use Rattle.lookups.specs.Found.{Joined, Found, AtEvent, Looked};
+
+// A start's outcome and its rounds; its cut stands as a row of `out`.
+struct Step {
+    outcome: Outcome,
+    rounds: u32,
+}
 
 // A byte as a number of rounds.
 fn counted(x: u8) -> u32
     ensures { λ r. ⌜ (r ≡ x) × (r < 256) ⌝ }
 {
     x as u32
+}
+
+// Does a row with this first cell say none?
+fn says_none(x: u8) -> bool
+    ensures { λ r. ⌜ (r ≡ true → x ≡ 255) × (r ≡ false → x < 255) ⌝ }
+{
+    x == NONE
 }
 
 // One round more, unless it changed nothing.
@@ -69,9 +77,23 @@ fn same_row(a: &[u8; 2048], b: &[u8; 2048], i: usize) -> bool
     slots::same(&x, &y)
 }
 
-// The rounds of the start from event i: its clock is in `first`, its first cut of the other set in `cuts`, what it comes to in `out`, and what
-// that was a round before in `last`.
-fn rounds_of(
+// The rounds of a start that comes to none: one where it has no first cut of the other set, else those of the entry that this cut looks up.
+fn lost_rounds(cuts: &[u8; 2048], marks: &[u8; 512], i: usize, s: usize) -> u32
+    requires { ⌜ (length (now cuts) ≡ 2048) × (length (now marks) ≡ 512) × (i < 256) × (s < 8) ⌝ }
+    ensures { λ r. ⌜ ((K : Computation) (S T : Structure) (j k : ℕ) (out last first : List ℕ) → AtEvent K S T s out last (now (cuts .entry)) first (now (marks .entry)) i j k → getD out (i * 8) 0 ≡ 255
+        → r ≡ (start K S T (clock K j k)) .rounds) ⌝ }
+    ensures { λ r. ⌜ ((m : ℕ) → Low m (now (marks .entry)) → r ≤ m + 2) ⌝ }
+{
+    if cuts[i * 8] == NONE {
+        return 1;
+    }
+    let p = wide(marks[wide(cuts[i * 8 + s])]);
+    1 + counted(marks[256 + p])
+}
+
+// The rounds of a start that comes to a cut: those of the entry that it looks up, and one more if it was at another cut a round before; one where
+// it looks nothing up, and one more if its clock is another cut.
+fn raised_rounds(
     out: &[u8; 2048],
     last: &[u8; 2048],
     cuts: &[u8; 2048],
@@ -81,16 +103,10 @@ fn rounds_of(
     s: usize,
 ) -> u32
     requires { ⌜ (length (now out) ≡ 2048) × (length (now last) ≡ 2048) × (length (now cuts) ≡ 2048) × (length (now first) ≡ 2048) × (length (now marks) ≡ 512) × (i < 256) × (s < 8) ⌝ }
-    ensures { λ r. ⌜ ((K : Computation) (A B : Structure) (b : Bool) (E : ℕ → Entry) (c : Cut) (o : Option Cut) (above under : List ℕ) → Small K → OfOwnRows K s A → Picks K s A (now (marks .entry))
-        → Chained K b s E 1 (chainOf above under (now (marks .entry))) → Coded K c (rowOf (now (first .entry)) i) → Says K o (rowOf (now (cuts .entry)) i) → Above c o
-        → rowOf (now (out .entry)) i ≡ join (rowOf (now (cuts .entry)) i) (rowOf above (placeOf (now (marks .entry)) (now (cuts .entry)) s i))
-        → rowOf (now (last .entry)) i ≡ join (rowOf (now (cuts .entry)) i) (rowOf under (placeOf (now (marks .entry)) (now (cuts .entry)) s i))
-        → Looked K (lookup K b s (ownRow A s) B E c o) (getD (now (cuts .entry)) (i * 8) 0) (rowOf (now (out .entry)) i) r) ⌝ }
+    ensures { λ r. ⌜ ((K : Computation) (S T : Structure) (j k : ℕ) → AtEvent K S T s (now (out .entry)) (now (last .entry)) (now (cuts .entry)) (now (first .entry)) (now (marks .entry)) i j k
+        → getD (now (out .entry)) (i * 8) 0 < 255 → r ≡ (start K S T (clock K j k)) .rounds) ⌝ }
     ensures { λ r. ⌜ ((m : ℕ) → Low m (now (marks .entry)) → r ≤ m + 2) ⌝ }
 {
-    if cuts[i * 8] == NONE {
-        return 1;
-    }
     let p = wide(marks[wide(cuts[i * 8 + s])]);
     if p == 0 {
         return 1 + one_more(same_row(out, first, i));
@@ -99,27 +115,32 @@ fn rounds_of(
     counted(marks[256 + p]) + 1 + more
 }
 
-// The row of a start: row i of a table, or none.
-fn put_start(
-    ws: &mut [u8],
-    at: usize,
-    n: usize,
+// The start from event i, whose outcome the first cell of its row in `out` tells: its clock is in `first`, its first cut of the other set in
+// `cuts`, what it comes to in `out`, and what that was a round before in `last`.
+fn look_up(
     out: &[u8; 2048],
+    last: &[u8; 2048],
+    cuts: &[u8; 2048],
+    first: &[u8; 2048],
+    marks: &[u8; 512],
     i: usize,
-    none: bool,
-    code: &[u8; 16],
-)
-    requires { ⌜ (0 < n) × (n ≤ 8) × (at + n ≤ length (now ws)) × (length (now out) ≡ 2048) × (i < 256) × (length (now code) ≡ 16) ⌝ }
-    ensures { λ _. ⌜ ((K : Computation) (o : Option Cut) → Small K → stations K ≡ n → Offsets K (now (code .entry)) → (none ≡ true → o ≡ option.none) → (none ≡ false → Says K o (rowOf (now (out .entry)) i))
-        → decoded (take n (drop at (now (ws .exit)))) ≡ o) ⌝ }
-    ensures { λ _. ⌜ take at (now (ws .exit)) ≡ take at (now (ws .entry)) ⌝ }
+    s: usize,
+) -> Step
+    requires { ⌜ (length (now out) ≡ 2048) × (length (now last) ≡ 2048) × (length (now cuts) ≡ 2048) × (length (now first) ≡ 2048) × (length (now marks) ≡ 512) × (i < 256) × (s < 8) ⌝ }
+    ensures { λ r. ⌜ ((K : Computation) (S T : Structure) (j k : ℕ) → AtEvent K S T s (now (out .entry)) (now (last .entry)) (now (cuts .entry)) (now (first .entry)) (now (marks .entry)) i j k
+        → Looked K (start K S T (clock K j k)) (rowOf (now (out .entry)) i) r) ⌝ }
+    ensures { λ r. ⌜ ((m : ℕ) → Low m (now (marks .entry)) → r .rounds ≤ m + 2) ⌝ }
 {
-    if none {
-        ws[at] = NONE;
-        return;
+    if says_none(out[i * 8]) {
+        return Step {
+            outcome: Outcome::Lost,
+            rounds: lost_rounds(cuts, marks, i, s),
+        };
     }
-    let cut = cells::cut_at(out, i * 8, 8);
-    slots::put_counts(ws, at, n, &cut, code);
+    Step {
+        outcome: Outcome::Raised,
+        rounds: raised_rounds(out, last, cuts, first, marks, i, s),
+    }
 }
 
 // The rows of all starts go to the front of ws, and their rounds are counted.
@@ -149,9 +170,11 @@ fn put_all(
     let mut rounds: u32 = 0;
     let mut i = 0;
     while i <= e {
-        rounds += rounds_of(out, last, cuts, first, marks, i, s);
-        let none = cuts[i * 8] == NONE;
-        put_start(ws, i * n, n, out, i, none, &code);
+        let step = look_up(out, last, cuts, first, marks, i, s);
+        let outcome = step.outcome;
+        let cut = cells::cut_at(out, i * 8, 8);
+        slots::put_start(ws, i * n, n, outcome, &cut, &code);
+        rounds += step.rounds;
         i += 1;
     }
     rounds

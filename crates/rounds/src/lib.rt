@@ -1,33 +1,12 @@
 // The rounds of an intersection: all starts of a pair of structures, each as a table of rows.
-use start::Outcome;
-use start::Start;
 use start::one_start;
 ghost use mathlib.Core.Path.{_≡_};
-ghost use mathlib.Core.Option.{Option};
 ghost use Prim.Native.Nat.{_+_, _*_, _≤_, _<_};
-ghost use lib.ListN.{length, take, drop};
-ghost use Rattle.model.specs.Cut.{Cut};
-ghost use Rattle.model.specs.Computation.{Computation, stations};
+ghost use lib.ListN.{length};
+ghost use Rattle.model.specs.Computation.{Computation};
 ghost use Rattle.model.specs.Structure.{Structure};
-ghost use Rattle.slots.specs.Slots.{Small, Offsets};
-ghost use Rattle.structure.specs.Layout.{decoded};
-ghost use Rattle.start.specs.Ended.{Reached};
 ghost use Rattle.rounds.specs.Pair.{Known};
 ghost use Rattle.slots.specs.Pair.{Intersected};
-
-// The row of a start: its cut, or none.
-fn put_start(ws: &mut [u8], at: usize, n: usize, code: &[u8; 16], r: Start)
-    requires { ⌜ (0 < n) × (n ≤ 8) × (at + n ≤ length (now ws)) × (length (now code) ≡ 16) × (length (r .cut) ≡ 8) ⌝ }
-    ensures { λ _. ⌜ ((K : Computation) (o : Option Cut) → Small K → stations K ≡ n → Offsets K (now (code .entry)) → Reached K (r .outcome) (r .cut) o → decoded (take n (drop at (now (ws .exit)))) ≡ o) ⌝ }
-    ensures { λ _. ⌜ take at (now (ws .exit)) ≡ take at (now (ws .entry)) ⌝ }
-{
-    let outcome = r.outcome;
-    let cut = r.cut;
-    match outcome {
-        Outcome::Raised => slots::put_counts(ws, at, n, &cut, code),
-        Outcome::Lost => ws[at] = cells::NONE,
-    }
-}
 
 // All starts of a pair, the empty cut and each event's clock: their rows go to the front of ws.
 pub fn intersect(
@@ -48,7 +27,9 @@ pub fn intersect(
     let mut i = 0;
     while i <= e {
         let r = one_start(left, right, first, e, i);
-        put_start(ws, i * n, n, code, r);
+        let outcome = r.outcome;
+        let cut = r.cut;
+        slots::put_start(ws, i * n, n, outcome, &cut, code);
         rounds += r.rounds;
         i += 1;
     }

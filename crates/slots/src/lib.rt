@@ -1,16 +1,24 @@
-// A structure as a table of rows of eight cells, in which a cut is raised without a branch.
+// A structure as a table of rows of eight cells, in which a cut is raised without a branch, and what a start of a pair came to, put as a row.
 pub use numbering::coding;
-pub use numbering::put_counts;
 pub use numbering::put_rows;
 ghost use mathlib.Core.Path.{_≡_};
 ghost use mathlib.Core.Bool.{true};
 ghost use mathlib.Core.Option.{Option};
-ghost use lib.ListN.{length, getD};
+ghost use Prim.Native.Nat.{_+_, _≤_, _<_};
+ghost use lib.ListN.{length, getD, take, drop};
 ghost use Rattle.model.specs.Cut.{Cut};
-ghost use Rattle.model.specs.Computation.{Computation};
+ghost use Rattle.model.specs.Computation.{Computation, stations};
 ghost use Rattle.model.specs.Structure.{Structure, row};
 ghost use Rattle.model.specs.Basis.{thenRight};
-ghost use Rattle.slots.specs.Slots.{Small, Says, Slots, Packed};
+ghost use Rattle.structure.specs.Layout.{decoded};
+ghost use Rattle.slots.specs.Slots.{Small, Says, Slots, Offsets, Packed};
+ghost use Rattle.slots.specs.Reached.{Reached};
+
+// How a start ended.
+pub enum Outcome {
+    Raised,
+    Lost,
+}
 
 // Raises a cut in the structure of a table; hands back the first cell of what comes out.
 pub fn raise(table: &[u8; 2048], cut: &[u8; 8], out: &mut [u8; 8]) -> u8
@@ -54,4 +62,23 @@ pub fn same(a: &[u8; 8], b: &[u8; 8]) -> bool
     ensures { λ r. ⌜ (r ≡ true → now (a .entry) ≡ now (b .entry)) × (now (a .entry) ≡ now (b .entry) → r ≡ true) ⌝ }
 {
     packed(a) == packed(b)
+}
+
+// The row of a start: its cut, or none.
+pub fn put_start(
+    ws: &mut [u8],
+    at: usize,
+    n: usize,
+    outcome: Outcome,
+    cut: &[u8; 8],
+    code: &[u8; 16],
+)
+    requires { ⌜ (0 < n) × (n ≤ 8) × (at + n ≤ length (now ws)) × (length (now cut) ≡ 8) × (length (now code) ≡ 16) ⌝ }
+    ensures { λ _. ⌜ ((K : Computation) (o : Option Cut) → Small K → stations K ≡ n → Offsets K (now (code .entry)) → Reached K outcome (now (cut .entry)) o → decoded (take n (drop at (now (ws .exit)))) ≡ o) ⌝ }
+    ensures { λ _. ⌜ take at (now (ws .exit)) ≡ take at (now (ws .entry)) ⌝ }
+{
+    match outcome {
+        Outcome::Raised => numbering::put_counts(ws, at, n, cut, code),
+        Outcome::Lost => ws[at] = cells::NONE,
+    }
 }

@@ -1,13 +1,12 @@
 -- Laws of a start: what is left to run after some rounds, and what its answer says.
 use mathlib.Core.Path.{_≡_, refl, sym, ap, subst, _∙_}
-use Prim.Native.Nat.{ℕ, suc, _+_, _*_, _-_, _≤_, _<_}
+use Prim.Native.Nat.{ℕ, suc, _+_, _*_, _-_, _≤_}
 use native.Mathlib.Nat.{add-zero}
 use native.Mathlib.Omega.{arith}
 use mathlib.Core.Bool.{Bool, true, false}
 use mathlib.Core.List.{List}
-use mathlib.Core.Option.{Option, none, some}
-use lib.ListN.{length, take, drop, set}
-use lib.Seq.{getD-set-same}
+use mathlib.Core.Option.{none, some}
+use lib.ListN.{take, drop}
 use Rattle.model.specs.Cut.{Cut}
 use Rattle.model.specs.Computation.{Computation, count, clock, eventCount}
 use Rattle.model.specs.Structure.{Structure, raise}
@@ -15,44 +14,26 @@ use Rattle.model.specs.Basis as rule
 use Rattle.model.specs.Basis.{run}
 use Rattle.lattice.proofs.Consistency.{clock-consistent}
 use Rattle.lattice.proofs.Shortcuts.{came, later, afterLeft, nextLeft, quickOn, quick-run}
-use Rattle.structure.specs.Layout.{decoded}
-use Rattle.structure.proofs.Rows.{is-none, first-at}
 use Rattle.slots.specs.Slots.{number, Coded}
 use Rattle.round.specs.Said.{reading, Answers}
 use Rattle.slots.specs.Pair.{Both, Clocks}
-use Rattle.start.specs.Ended.{Reached, Ended}
+use Rattle.slots.proofs.Reached.{reached-raised, reached-lost}
+use Rattle.start.specs.Ended.{Ended}
 use Rattle.start.specs.declared.Start.{Start}
 use Rattle.round.specs.declared.Round.the-variants as round
 use Rattle.round.specs.declared.RoundResult.{RoundResult}
-use Rattle.start.specs.declared.Outcome.{Outcome}
-use Rattle.start.specs.declared.Outcome.the-variants as outcome
+use Rattle.slots.specs.declared.Outcome.the-variants as outcome
 
 -- ANSWERS
 
 pub ended-lost : (K : Computation) (o : rule.Outcome) (any : List ℕ) (n : ℕ) → o ≡ came none n → Ended K o (record { outcome = outcome.Lost; cut = any; rounds = n })
-unfolding Reached
-ended-lost K o any n e = record { rounds = sym (ap (λ (x : rule.Outcome). x .rounds) e); reached = ap (λ (x : rule.Outcome). x .reached) e }
+ended-lost K o any n e = record { rounds = sym (ap (λ (x : rule.Outcome). x .rounds) e); reached = reached-lost K any (o .reached) (ap (λ (x : rule.Outcome). x .reached) e) }
 
 pub ended-raised : (K : Computation) (o : rule.Outcome) (y : Cut) (cut : List ℕ) (n : ℕ) → o ≡ came (some y) n → Coded K y cut → Ended K o (record { outcome = outcome.Raised; cut = cut; rounds = n })
-unfolding Reached
-ended-raised K o y cut n e h = record { rounds = sym (ap (λ (x : rule.Outcome). x .rounds) e); reached = (y, ap (λ (x : rule.Outcome). x .reached) e, h) }
+ended-raised K o y cut n e h = record { rounds = sym (ap (λ (x : rule.Outcome). x .rounds) e); reached = reached-raised K cut (o .reached) y (ap (λ (x : rule.Outcome). x .reached) e) h }
 
 pub ended-by : (K : Computation) (o q : rule.Outcome) (r : Start) → o ≡ q → Ended K q r → Ended K o r
 ended-by K o q r e h = rw e h
-
-pub reached-some : (K : Computation) (end : Outcome) (cut : List ℕ) (o : Option Cut) → end ≡ outcome.Raised → Reached K end cut o → (x : Cut) × (o ≡ some x) × Coded K x cut
-unfolding Reached
-reached-some K outcome.Raised cut o e h = h
-reached-some K outcome.Lost cut o e h = let z : _≡_ {A = ℕ} 0 1 = cc in absurd (omega arith)
-
-pub reached-none : (K : Computation) (end : Outcome) (cut : List ℕ) (o : Option Cut) → end ≡ outcome.Lost → Reached K end cut o → o ≡ none
-unfolding Reached
-reached-none K outcome.Raised cut o e h = let z : _≡_ {A = ℕ} 0 1 = cc in absurd (omega arith)
-reached-none K outcome.Lost cut o e h = h
-
--- The first cell says none.
-pub none-put : (ws : List ℕ) (at n : ℕ) → 0 < n → at < length ws → decoded (take n (drop at (set ws at 255))) ≡ none
-none-put ws at n z h = is-none n (drop at (set ws at 255)) z (first-at (set ws at 255) at ∙ getD-set-same ws at 255 0 h)
 
 -- LATER ROUNDS
 

@@ -3,6 +3,7 @@
 use round::Round;
 use round::first_round;
 use round::next_round;
+use slots::Outcome;
 ghost use mathlib.Core.Path.{_≡_};
 ghost use Prim.Native.Nat.{ℕ, suc, _+_, _≤_};
 ghost use lib.ListN.{length};
@@ -15,12 +16,6 @@ ghost use Rattle.lattice.proofs.Shortcuts.{later, quickOn};
 ghost use Rattle.slots.specs.Slots.{number, Coded};
 ghost use Rattle.slots.specs.Pair.{Both, Clocks};
 ghost use Rattle.start.specs.Ended.{Ended};
-
-// How a start ended.
-pub enum Outcome {
-    Raised,
-    Lost,
-}
 
 // A start's outcome, the cut that it raised to, and its rounds.
 pub struct Start {

@@ -24,19 +24,24 @@ one-start-requires : tie.Need-one-start-requires Inv-loop μ-loop
 one-start-requires c κs = search needs
 
 mul-put-start : tie.Need-mul-put-start Inv-loop μ-loop
-mul-put-start c = let s = c .before .before .before .before .before in omega (arith, row-fits (c .before .before .before .loop .i) (s .args .e) (s .args .n) (c .before .before .loop-test .taken), s .pre .1 .3)
+mul-put-start c =
+    let t = c .before .before .before in
+    let s = t .before .before .before in
+    omega (arith, row-fits (t .before .loop .i) (s .args .e) (s .args .n) (t .loop-test .taken), s .pre .1 .3)
 
 put-start-requires : tie.Need-put-start-requires Inv-loop μ-loop
 put-start-requires c κs =
-    let s = c .before .before .before .before .before in
-    let l = c .before .before .before .loop in
-    (s .pre .1 .0, s .pre .1 .1, omega (arith, row-fits (l .i) (s .args .e) (s .args .n) (c .before .before .loop-test .taken), s .pre .1 .3, l .inv .0), s .pre .0 .3, c .before .one-start .ensures .1 .1)
+    let t = c .before .before .before .before in
+    let l = t .before .loop in
+    let s = t .before .before .before in
+    (s .pre .1 .0, s .pre .1 .1, omega (arith, row-fits (l .i) (s .args .e) (s .args .n) (t .loop-test .taken), s .pre .1 .3, l .inv .0), c .before .before .before .one-start .ensures .1 .1, s .pre .0 .3)
 
 add-rounds : tie.Need-add-rounds Inv-loop μ-loop
 add-rounds c =
-    let s = c .before .before .before .before .before .before .before .before .before in
-    let l = c .before .before .before .before .before .before .before .loop in
-    omega (arith, laws.few-rounds (l .i) (s .args .e) (s .args .e + 2) (l .rounds) (c .before .before .before .before .before .before .loop-test .taken) (s .pre .1 .2) (omega arith) (l .inv .1 .few), c .before .before .before .before .before .one-start .ensures .1 .0, s .pre .1 .2)
+    let t = c .before .before .before .before .before .before .before .before in
+    let l = t .before .loop in
+    let s = t .before .before .before in
+    omega (arith, laws.few-rounds (l .i) (s .args .e) (s .args .e + 2) (l .rounds) (t .loop-test .taken) (s .pre .1 .2) (omega arith) (l .inv .1 .few), c .before .before .before .before .before .before .before .one-start .ensures .1 .0, s .pre .1 .2)
 
 add-i : tie.Need-add-i Inv-loop μ-loop
 add-i c = search needs
@@ -46,13 +51,13 @@ loop-less c = search needs
 
 loop-again : tie.Need-loop-again Inv-loop μ-loop
 loop-again c =
-    let s = c .before .before .before .before .before .before .before .before .before in
-    let a = s .args in
-    let l = c .before .before .before .before .before .before .before .loop in
-    let r = c .before .before .before .before .before .one-start in
+    let t = c .before .before .before .before .before .before .before .before in
+    let l = t .before .loop in
+    let a = t .before .before .before .args in
+    let r = c .before .before .before .before .before .before .before .one-start in
     let w = c .before .before .before .put-start in (
       w .kept .0 ∙ l .inv .0,
-      laws.turned-more (a .n) (a .e) (a .e + 2) _ (λ K S T k. (k .stationed, k .counted)) (l .i) (l .ws) (w .last .0) (l .rounds) (r .result .rounds) (l .inv .1) (c .before .before .before .before .before .before .loop-test .taken) (w .ensures .1) (r .ensures .1 .0)
+      laws.turned-more (a .n) (a .e) (a .e + 2) _ (λ K S T k. (k .stationed, k .counted)) (l .i) (l .ws) (w .last .0) (l .rounds) (r .result .rounds) (l .inv .1) (t .loop-test .taken) (w .ensures .1) (r .ensures .1 .0)
           (λ K S T k j m h e. let o = r .ensures .0 K S T j m (k .both) (k .clocks-are) (k .counted) h e in (w .ensures .0 K _ (k .both .small) (k .stationed) (k .offsets) (o .reached), o .rounds)),
     )
 
