@@ -83,8 +83,8 @@ module _ {m : Limits} {list t : List ℕ} {p : Position} (w : Partly m list p t)
       omega arith,
     )
 
-    pub entered-ends : {x : Fault} → a .step ≡ Faulty x → readList m list ≡ refused (number x) (p .line)
-    entered-ends e = sofar-ends t′ tried e left
+    pub entered-ends : {x : Fault} → a .step ≡ Faulty x → Entered m (Faulty x) list p p t′
+    entered-ends e = (sofar-ends t′ tried e left, refl)
 
 -- ALL ENTRIES
 pub partly-first : {m : Limits} (list t : List ℕ) → length list ≤ m .list → Formed list → Partly m list first t
@@ -95,7 +95,7 @@ module _ (m : Limits) (s : Step) (list : List ℕ) (p q : Position) (t : List �
   step-next e = rw e at d
 
   pub step-faulty : {x : Fault} → s ≡ Faulty x → readList m list ≡ refused (number x) (p .line)
-  step-faulty e = rw e at d
+  step-faulty {x} e = let f : Entered m (Faulty x) list p q t = rw e at d in f .0
 
 module _ {m : Limits} {list t : List ℕ} {p : Position} (w : Partly m list p t) (h : length list ≤ p .length) where
   none-left : Sofar m (readList m list) [] p list t

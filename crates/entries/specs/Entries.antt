@@ -43,10 +43,10 @@ pub record Partly (m : Limits) (list : List ℕ) (p : Position) (t : List ℕ) :
   pub rest-formed : Formed (drop (p .length) list)
   pub sofar : Sofar m (readList m list) (map frame (entries (drop (p .length) list))) p list t
 
--- What a step says of the list.
+-- What a step says of the list; a fault leaves the position as it was.
 abbrev pub Entered : Limits → Step → List ℕ → Position → Position → List ℕ → Type 0
 Entered m Next list p q t = Partly m list q t × (p .length < q .length)
-Entered m (Faulty x) list p q t = readList m list ≡ refused (number x) (p .line)
+Entered m (Faulty x) list p q t = (readList m list ≡ refused (number x) (p .line)) × (q ≡ p)
 
 -- The list is accepted.
 pub record Allowed (m : Limits) (list : List ℕ) : Type 0 where

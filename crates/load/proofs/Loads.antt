@@ -263,15 +263,21 @@ loading-first {m} log list t p e h = rw e (within-first log, record { kept-list 
 
 pub loads-refusal : (m : Limits) (log list t list′ t′ : List ℕ) (x : Fault) (n k : ℕ) (l : Loaded) → l ≡ refusedAt x n k → readLog m log ≡ refused (number x) n → Left k list t list′ t′
     → Loads m (l .outcome) log (l .state) (l .length) list′ t′ × Left (l .length) list t list′ t′
-loads-refusal m log list t list′ t′ x n k l e h g = rw e (h, g)
+loads-refusal m log list t list′ t′ x n k l e h g = rw e ((h, refl), g)
 
 -- the two cases of what loading comes to
 module _ (m : Limits) (o : Acceptance) (log : List ℕ) (s : State) (k : ℕ) (list t : List ℕ) (l : Loads m o log s k list t) where
   pub to-accepts : o ≡ Accepted → Accepts m log s k list t
   to-accepts e = rw e at l
 
+  refusal : (x : Refusal) → o ≡ Refused x → Loads m (Refused x) log s k list t
+  refusal x e = rw e at l
+
   pub to-refused : (x : Refusal) → o ≡ Refused x → readLog m log ≡ refused (number (x .fault)) (x .line)
-  to-refused x e = rw e at l
+  to-refused x e = refusal x e .0
+
+  pub to-fresh : (x : Refusal) → o ≡ Refused x → s ≡ fresh
+  to-fresh x e = refusal x e .1
 
 -- the limits as the code hands them over
 pub no-larger : (m : Limits) → m ≡ limits → NoLarger m limits

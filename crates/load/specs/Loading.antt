@@ -89,7 +89,7 @@ pub record Accepts (m : Limits) (log : List ℕ) (s : State) (k : ℕ) (list t :
   pub bounded : Bounded m s
   pub some-stations : 0 < s .stations
 
--- What loading a log comes to.
+-- What loading a log comes to; a refused log leaves nothing in the state.
 abbrev pub Loads : Limits → Acceptance → List ℕ → State → ℕ → List ℕ → List ℕ → Type 0
 Loads m Accepted log s k list t = Accepts m log s k list t
-Loads m (Refused x) log s k list t = readLog m log ≡ refused (number (x .fault)) (x .line)
+Loads m (Refused x) log s k list t = (readLog m log ≡ refused (number (x .fault)) (x .line)) × (s ≡ fresh)

@@ -53,7 +53,7 @@ pub struct Loaded {
 
 impl Loaded {
     // A refusal, after a frame list of some length.
-    pub(crate) fn refused(fault: model::Fault, line: usize, length: usize) -> Loaded
+    pub fn refused(fault: model::Fault, line: usize, length: usize) -> Loaded
         ensures { λ r. ⌜ r ≡ refusedAt fault line length ⌝ }
     {
         let state = State::fresh();

@@ -1,6 +1,5 @@
 -- The forecast of a question of a loaded log, from its figures and the counts of stations and events.
 use mathlib.Core.Path.{_≡_, sym}
-use mathlib.Core.Bool.{true}
 use mathlib.Core.List.{List}
 use mathlib.Core.Option.{some}
 use Prim.Native.Nat.{ℕ, _+_, _*_, _≤_}
@@ -10,7 +9,7 @@ use lib.ListN.{length, getElem?}
 use Rattle.model.specs.declared.Limits.{Limits}
 use Rattle.model.specs.declared.Forecast.{Forecast}
 use Rattle.model.specs.Limits.{limits}
-use Rattle.model.specs.Formula.{Formula, prefix, sound}
+use Rattle.model.specs.Formula.{Formula, prefix, formulaOf}
 use Rattle.model.specs.Computation.{Computation, stations, eventCount}
 use Rattle.model.specs.Rules.{asTrue}
 use Rattle.model.specs.Forecast.{forecast}
@@ -21,6 +20,8 @@ use Rattle.codec.proofs.Formulas.{formula-prefix, length-formula}
 use Rattle.extents.specs.declared.Figures.{Figures}
 use Rattle.extents.specs.Extents.{figuresOf}
 use Rattle.extents.proofs.Extents.{ceiling-pairs}
+use Rattle.query.specs.Judged.{judged, figuresIn}
+use Rattle.query.proofs.Judged.{figures-prefix}
 use Rattle.frame.specs.declared.State.{State}
 use Rattle.load.specs.Loading.{Accepts}
 use Rattle.frame.proofs.Steps.{bounded-up}
@@ -42,8 +43,9 @@ module _ {m : Limits} {log : List ℕ} {s : State} {k : ℕ} {list t : List ℕ}
   pub few-bytes : length (prefix f) ≤ 99
   few-bytes = let h = fits-to f (good-at a q f is .1) in omega (arith, length-formula (prefix f) f (formula-prefix f), h .0, h .1)
 
-  pub sound-here : sound (s .stations) f ≡ true
-  sound-here = rw (a .holds .stored .size) at (good-at a q f is .0)
+  -- It is fine, so what is judged of its bytes has its figures.
+  pub figures-here : {b : List ℕ} {g : Figures} → b ≡ prefix f → g ≡ figuresIn (judged (s .stations) (formulaOf b)) → g ≡ figuresOf (asTrue f)
+  figures-here e = let good = good-at a q f is in figures-prefix (s .stations) f e (rw (a .holds .stored .size) at (good .0)) (good .1) (good .2)
 
   pub foreseen : (g : Figures) → g ≡ figuresOf (asTrue f) → costs g (s .stations) (s .events) ≡ forecast K f
   foreseen g e = costs-forecast K f g (s .stations) (s .events) e (sym (a .holds .stored .size)) (a .holds .events)

@@ -1,5 +1,5 @@
 -- What opening a log for a question comes to, by what loading it came to.
-use mathlib.Core.Path.{_≡_}
+use mathlib.Core.Path.{_≡_, refl}
 use mathlib.Core.List.{List}
 use Prim.Native.Nat.{ℕ, _≤_, _<_}
 use native.Mathlib.Omega.{arith}
@@ -7,14 +7,15 @@ use lib.ListN.{length}
 use Rattle.model.specs.declared.Limits.{Limits}
 use Rattle.model.specs.Limits.{limits}
 use Rattle.model.specs.declared.Refusal.{Refusal}
+use Rattle.model.specs.declared.Fault.the-variants.{NoQuestion}
 use Rattle.model.specs.Reply.{number}
 use Rattle.model.specs.Operations.{shut, poses, posing, openingOf, opening}
 use Rattle.codec.specs.Limits.{NoLarger}
 use Rattle.load.specs.declared.Acceptance.{Acceptance}
 use Rattle.load.specs.declared.Acceptance.the-variants.{Accepted, Refused}
 use Rattle.load.specs.declared.Loaded.{Loaded}
-use Rattle.load.specs.Loading.{Accepts, Loads}
-use Rattle.load.proofs.Loads.{to-accepts, to-refused}
+use Rattle.load.specs.Loading.{refusedAt, Accepts, Loads}
+use Rattle.load.proofs.Loads.{to-accepts, to-refused, to-fresh}
 use Rattle.opening.specs.Opening.{Holding, Poses, Opens}
 use Rattle.opening.proofs.Logs.{question-count, question-there, no-question}
 
@@ -39,14 +40,20 @@ module _ (m : Limits) (log : List ℕ) (q : ℕ) (l : Loaded) (list t : List ℕ
         rw e (record { accepts = a; question = f .0; is = f .1 })
 
     -- One that does not have it is shut.
-    pub opens-without : o ≡ Accepted → l .state .questions ≤ q → opening m log q ≡ shut 10 0
+    without : o ≡ Accepted → l .state .questions ≤ q → opening m log q ≡ shut 10 0
     unfolding opening openingOf posing
-    opens-without e b = let a = accepts e in rw (a .is, no-question (a .reading .questions) q (omega (arith, question-count a)))
+    without e b = let a = accepts e in rw (a .is, no-question (a .reading .questions) q (omega (arith, question-count a)))
+
+    pub opens-without : o ≡ Accepted → l .state .questions ≤ q → (r : Loaded) → r ≡ refusedAt NoQuestion 0 (l .length) → Opens m (r .outcome) log q r list t
+    opens-without e b r is = rw is (without e b, refl)
 
     -- A refused log is shut by its refusal.
-    pub opens-refused : (x : Refusal) → o ≡ Refused x → Opens m o log q l list t
+    shut-by : (x : Refusal) → o ≡ Refused x → opening m log q ≡ shut (number (x .fault)) (x .line)
     unfolding opening openingOf
-    opens-refused x e = rw e (rw (to-refused m o log (l .state) (l .length) list t h x e))
+    shut-by x e = rw (to-refused m o log (l .state) (l .length) list t h x e)
+
+    pub opens-refused : (x : Refusal) → o ≡ Refused x → Opens m o log q l list t
+    opens-refused x e = rw e (shut-by x e, to-fresh m o log (l .state) (l .length) list t h x e)
 
 -- The two cases, as the code hands them over with the limits that it gave.
 module _ (m m′ : Limits) (is : m ≡ m′) (log : List ℕ) (q : ℕ) (l : Loaded) (list t : List ℕ) (o : Acceptance) (h : Opens m o log q l list t) where
@@ -54,4 +61,4 @@ module _ (m m′ : Limits) (is : m ≡ m′) (log : List ℕ) (q : ℕ) (l : Loa
   to-poses e = rw is at (rw e at h)
 
   pub to-shut : (x : Refusal) → o ≡ Refused x → opening m′ log q ≡ shut (number (x .fault)) (x .line)
-  to-shut x e = rw is at (rw e at h)
+  to-shut x e = let s : Opens m (Refused x) log q l list t = rw e at h in rw is at (s .0)

@@ -10,6 +10,7 @@ use Rattle.model.specs.Formula.{Formula}
 use Rattle.model.specs.Reply.{number}
 use Rattle.model.specs.Operations.{shut, opening}
 use Rattle.codec.specs.Limits.{NoLarger}
+use Rattle.frame.specs.State.{fresh}
 use Rattle.load.specs.declared.Acceptance.{Acceptance}
 use Rattle.load.specs.declared.Acceptance.the-variants as acceptance
 use Rattle.load.specs.declared.Loaded.{Loaded}
@@ -28,7 +29,7 @@ pub record Poses (m : Limits) (log : List ℕ) (q : ℕ) (l : Loaded) (list t : 
   pub question : Formula
   pub is : getElem? (accepts .reading .questions) q ≡ some question
 
--- What opening a log for a question comes to.
+-- What opening a log for a question comes to; a refusal leaves nothing in the state.
 abbrev pub Opens : Limits → Acceptance → List ℕ → ℕ → Loaded → List ℕ → List ℕ → Type 0
 Opens m acceptance.Accepted log q l list t = Poses m log q l list t
-Opens m (acceptance.Refused x) log q l list t = opening m log q ≡ shut (number (x .fault)) (x .line)
+Opens m (acceptance.Refused x) log q l list t = (opening m log q ≡ shut (number (x .fault)) (x .line)) × (l .state ≡ fresh)

@@ -18,7 +18,7 @@ ghost use Rattle.model.specs.Forecast.{forecast};
 ghost use Rattle.model.specs.Operations.{cramped};
 ghost use Rattle.codec.specs.Limits.{NoLarger};
 ghost use Rattle.structure.specs.Laid.{Given};
-ghost use Rattle.load.specs.Loading.{Accepts};
+ghost use Rattle.load.specs.Loading.{Left, Accepts};
 ghost use Rattle.opening.specs.Opening.{Holding, Opens};
 
 // Loads a log within the limits m, and looks whether it has a question of this number: the refusals of Read, then 10.
@@ -32,6 +32,7 @@ pub fn open_log(
     requires { ⌜ NoLarger m limits ⌝ }
     requires { ⌜ (length (now list) ≡ limits .list) × (length (now store) ≡ storeSize) ⌝ }
     ensures { λ r. ⌜ Opens m (r .outcome) (now (log .entry)) question r (now (list .exit)) (now (store .exit)) ⌝ }
+    ensures { λ r. ⌜ Left (r .length) (now (list .entry)) (now (store .entry)) (now (list .exit)) (now (store .exit)) ⌝ }
 {
     let loaded = load::load(m, log, list, store);
     let outcome = loaded.outcome;
@@ -42,15 +43,7 @@ pub fn open_log(
             if question < s.questions {
                 return loaded;
             }
-            let refusal = model::Refusal {
-                fault: model::Fault::NoQuestion,
-                line: 0,
-            };
-            Loaded {
-                outcome: Acceptance::Refused(refusal),
-                state: s,
-                length: loaded.length,
-            }
+            Loaded::refused(model::Fault::NoQuestion, 0, loaded.length)
         }
     }
 }

@@ -30,7 +30,7 @@ pub fn number(before: usize, k: usize) -> usize
 // The number that a count of a station with `most` events says; 255 if there is no such event.
 fn number_of(count: u8, before: usize, most: usize) -> u8
     requires { ⌜ before + most ≤ 254 ⌝ }
-    ensures { λ r. ⌜ ((K : Computation) (s : ℕ) → before ≡ total (take s (full K)) → count ≤ most → r ≡ number K s count) ⌝ }
+    ensures { λ r. ⌜ ((K : Computation) (s : ℕ) → before ≡ total (take s (full K)) → count ≤ most → r ≡ number K s count) × (most < count → r ≡ 255) ⌝ }
 {
     let k = wide(count);
     if most < k {

@@ -19,7 +19,7 @@ use Rattle.extents.specs.declared.Extent.the-variants.{Wide, Narrow}
 use Rattle.atoms.specs.declared.Size.{Size}
 use Rattle.extents.specs.Extents.{figuresOf}
 use Rattle.query.specs.declared.Verdict.the-variants.{Fine, Malformed, TooLarge, Unworkable}
-use Rattle.query.specs.Judged.{judged}
+use Rattle.query.specs.Judged.{judged, figuresIn}
 use Rattle.atoms.specs.Measured.{first, Sized}
 use Rattle.extents.proofs.Extents.{narrow-of, wide-of}
 
@@ -91,9 +91,10 @@ module _ {n : ℕ} {q : List ℕ} {z : Size} (x : Sized n true q z) where
 -- A FINE QUESTION
 
 module _ (n : ℕ) {q : List ℕ} (f : Formula) (e : q ≡ prefix f) (s : sound n f ≡ true) (h : fits f ≡ true) (w : workable (asTrue f) ≡ true) where
-  pub judged-prefix : judged n (formulaOf q) ≡ Fine (figuresOf (asTrue f))
+  judged-prefix : judged n (formulaOf q) ≡ Fine (figuresOf (asTrue f))
   unfolding judged
   judged-prefix = simp (e, formula-prefix f, s, h, w)
 
-  pub figures-prefix : {g : Figures} → Fine g ≡ judged n (formulaOf q) → g ≡ figuresOf (asTrue f)
-  figures-prefix v = let x = v ∙ judged-prefix in cc
+  -- Its figures are those of its formula as true.
+  pub figures-prefix : {g : Figures} → g ≡ figuresIn (judged n (formulaOf q)) → g ≡ figuresOf (asTrue f)
+  figures-prefix v = v ∙ ap figuresIn judged-prefix

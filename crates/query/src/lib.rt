@@ -9,16 +9,13 @@ use extents::Figures;
 use extents::join;
 use extents::lift;
 ghost use mathlib.Core.Path.{_≡_};
-ghost use mathlib.Core.Bool.{Bool, true, not};
+ghost use mathlib.Core.Bool.{Bool, not};
 ghost use mathlib.Core.List.{List, _∷_};
 ghost use Prim.Native.Nat.{ℕ, _≤_, _<_};
 ghost use lib.ListN.{length, drop};
 ghost use lib.Dec.{eqb};
-ghost use Rattle.model.specs.Formula.{Formula, prefix, formulaOf, sound};
-ghost use Rattle.model.specs.Rules.{asTrue, workable};
-ghost use Rattle.model.specs.Size.{fits};
-ghost use Rattle.extents.specs.Extents.{figuresOf};
-ghost use Rattle.query.specs.Judged.{judged};
+ghost use Rattle.model.specs.Formula.{formulaOf};
+ghost use Rattle.query.specs.Judged.{judged, figuresIn};
 ghost use Rattle.atoms.specs.Measured.{Measured, Sized};
 ghost use Rattle.query.specs.Sizes.{Short, Brief, Longer, Together};
 
@@ -155,10 +152,10 @@ pub fn judge(q: &[u8], n: usize) -> Verdict
     Verdict::Fine(g)
 }
 
-// The figures of a question that is fine, as every question of an accepted log is. Of any other they are those of no structure.
+// The figures of a question that is fine, as every question of an accepted log is; zeros for any other.
 pub fn figures(q: &[u8], n: usize) -> Figures
     requires { ⌜ length (now q) ≤ 99 ⌝ }
-    ensures { λ r. ⌜ ((f : Formula) → now (q .entry) ≡ prefix f → sound n f ≡ true → fits f ≡ true → workable (asTrue f) ≡ true → r ≡ figuresOf (asTrue f)) ⌝ }
+    ensures { λ r. ⌜ r ≡ figuresIn (judged n (formulaOf (now (q .entry)))) ⌝ }
 {
     let v = judge(q, n);
     let Verdict::Fine(g) = v else {

@@ -36,7 +36,7 @@ slice-aggregate-cramped c = search needs
 cramped-requires : tie.Need-cramped-requires
 cramped-requires c κs =
     let o = c .before .before .before .before .before .open-log in
-    let p = to-poses _ _ (c .before .before .before .before .before .before .before .before .limits .ensures) _ _ _ _ _ _ (c .before .before .before .before .before .open-log .ensures) (c .before .enum-told .given .1) in
+    let p = to-poses _ _ (c .before .before .before .before .before .before .before .before .limits .ensures) _ _ _ _ _ _ (c .before .before .before .before .before .open-log .ensures .0) (c .before .enum-told .given .1) in
     ((below (p .accepts) _ (p .question) (p .is), omega (arith, p .accepts .short, o .kept)), (_, holding same-within (p .accepts)))
 
 refused-requires : tie.Need-refused-requires
@@ -44,7 +44,7 @@ refused-requires c κs = search needs
 
 returns : tie.Need-returns
 returns c =
-    let p = to-poses _ _ (c .before .before .before .before .before .before .before .before .before .before .before .limits .ensures) _ _ _ _ _ _ (c .before .before .before .before .before .before .before .before .open-log .ensures) (c .before .before .before .before .enum-told .given .1) in
+    let p = to-poses _ _ (c .before .before .before .before .before .before .before .before .before .before .before .limits .ensures) _ _ _ _ _ _ (c .before .before .before .before .before .before .before .before .open-log .ensures .0) (c .before .before .before .before .enum-told .given .1) in
     met-refused _ _ _ _ _ _ 11 0 (c .refused .ensures) (answer-cramped _ _ _ _ _ _ _ (poses-is _ _ _ _ _ _ p) (sym (c .before .before .cramped .ensures _ _ _ (p .accepts) (p .question) (p .is)) ∙ c .before .if1 .taken))
 
 refused-requires-2 : tie.Need-refused-requires-2
@@ -52,7 +52,7 @@ refused-requires-2 c κs = search needs
 
 returns-2 : tie.Need-returns-2
 returns-2 c =
-    let p = to-poses _ _ (c .before .before .before .before .before .before .before .before .before .before .before .before .limits .ensures) _ _ _ _ _ _ (c .before .before .before .before .before .before .before .before .before .open-log .ensures) (c .before .before .before .before .before .enum-told .given .1) in
+    let p = to-poses _ _ (c .before .before .before .before .before .before .before .before .before .before .before .before .limits .ensures) _ _ _ _ _ _ (c .before .before .before .before .before .before .before .before .before .open-log .ensures .0) (c .before .before .before .before .before .enum-told .given .1) in
     met-refused _ _ _ _ _ _ 12 0 (c .refused2 .ensures) (answer-short _ _ _ _ _ _ _ (poses-is _ _ _ _ _ _ p) (sym (c .before .before .before .cramped .ensures _ _ _ (p .accepts) (p .question) (p .is)) ∙ c .before .before .if1 .left) (ltb-true _ _ (c .before .if2 .taken)))
 
 slice-aggregate-answer-one : tie.Need-slice-aggregate-answer-one
@@ -64,12 +64,12 @@ slice-aggregate-answer-one-2 c = search needs
 answer-one-requires : tie.Need-answer-one-requires
 answer-one-requires c κs =
     let o = c .before .before .before .before .before .before .before .before .before .before .before .before .before .open-log in
-    let p = to-poses _ _ (c .before .before .before .before .before .before .before .before .before .before .before .before .before .before .before .before .limits .ensures) _ _ _ _ _ _ (c .before .before .before .before .before .before .before .before .before .before .before .before .before .open-log .ensures) (c .before .before .before .before .before .before .before .before .before .enum-told .given .1) in
+    let p = to-poses _ _ (c .before .before .before .before .before .before .before .before .before .before .before .before .before .before .before .before .limits .ensures) _ _ _ _ _ _ (c .before .before .before .before .before .before .before .before .before .before .before .before .before .open-log .ensures .0) (c .before .before .before .before .before .before .before .before .before .enum-told .given .1) in
     let room = roomy _ _ _ _ (sym (c .before .before .before .before .before .before .before .cramped .ensures _ _ _ (p .accepts) (p .question) (p .is)) ∙ c .before .before .before .before .before .before .if1 .left) in
     ((omega (arith, p .accepts .short, o .kept), omega (arith, o .kept), room .1, ltb-false _ _ (c .before .before .before .before .before .if2 .left)), (_, p, room .0))
 
 returns-3 : tie.Need-returns-3
-returns-3 c = met-refused _ _ _ _ _ _ _ _ refl (answer-shut _ _ _ _ _ _ _ (to-shut _ _ (c .before .before .before .before .before .before .before .before .limits .ensures) _ _ _ _ _ _ (c .before .before .before .before .before .open-log .ensures) _ (c .before .outcome .given .1)))
+returns-3 c = met-refused _ _ _ _ _ _ _ _ refl (answer-shut _ _ _ _ _ _ _ (to-shut _ _ (c .before .before .before .before .before .before .before .before .limits .ensures) _ _ _ _ _ _ (c .before .before .before .before .before .open-log .ensures .0) _ (c .before .outcome .given .1)))
 
 same-length : tie.Need-same-length
 same-length c = search needs
@@ -82,7 +82,7 @@ same-length-3 c = search needs
 
 returns-4 : tie.Need-returns-4
 returns-4 c =
-    let p = to-poses _ _ (c .before .before .before .before .before .before .before .before .before .before .before .before .before .before .before .before .before .before .before .before .before .before .before .limits .ensures) _ _ _ _ _ _ (c .before .before .before .before .before .before .before .before .before .before .before .before .before .before .before .before .before .before .before .before .open-log .ensures) (c .before .before .before .before .before .before .before .before .before .before .before .before .before .before .before .before .enum-told .given .1) in
+    let p = to-poses _ _ (c .before .before .before .before .before .before .before .before .before .before .before .before .before .before .before .before .before .before .before .before .before .before .before .limits .ensures) _ _ _ _ _ _ (c .before .before .before .before .before .before .before .before .before .before .before .before .before .before .before .before .before .before .before .before .open-log .ensures .0) (c .before .before .before .before .before .before .before .before .before .before .before .before .before .before .before .before .enum-told .given .1) in
     let a = c .before .before .before .before .before .before .before .before .before .before .before .before .before .before .before .before .before .before .before .before .before .before .before .before .before .before .before .before .args in
     met-written _ _ (a .ws .now) (a .bs .now) _ _ (answer-line _ _ _ _ _ _ _ (poses-is _ _ _ _ _ _ p) (sym (c .before .before .before .before .before .before .before .before .before .before .before .before .before .before .cramped .ensures _ _ _ (p .accepts) (p .question) (p .is)) ∙ c .before .before .before .before .before .before .before .before .before .before .before .before .before .if1 .left) (ltb-false _ _ (c .before .before .before .before .before .before .before .before .before .before .before .before .if2 .left))) _ _ (c .before .before .before .before .before .before .answer-one .ensures _ p)
 

@@ -34,15 +34,15 @@ slice-aggregate-foresee c = search needs
 foresee-requires : tie.Need-foresee-requires
 foresee-requires c κs =
     let o = c .before .before .before .before .before .open-log in
-    let p = to-poses _ _ (c .before .before .before .before .before .before .before .before .limits .ensures) _ _ _ _ _ _ (o .ensures) (c .before .enum-told .given .1) in
+    let p = to-poses _ _ (c .before .before .before .before .before .before .before .before .limits .ensures) _ _ _ _ _ _ (o .ensures .0) (c .before .enum-told .given .1) in
     ((below (p .accepts) _ (p .question) (p .is), omega (arith, p .accepts .short, o .kept)), (_, holding same-within (p .accepts)))
 
 returns : tie.Need-returns
-returns c = met-shut _ _ (c .before .outcome .given .0 .0) (to-shut _ _ (c .before .before .before .before .before .before .before .before .limits .ensures) _ _ _ _ _ _ (c .before .before .before .before .before .open-log .ensures) _ (c .before .outcome .given .1))
+returns c = met-shut _ _ (c .before .outcome .given .0 .0) (to-shut _ _ (c .before .before .before .before .before .before .before .before .limits .ensures) _ _ _ _ _ _ (c .before .before .before .before .before .open-log .ensures .0) _ (c .before .outcome .given .1))
 
 returns-2 : tie.Need-returns-2
 returns-2 c =
-    let p = to-poses _ _ (c .before .before .before .before .before .before .before .before .before .limits .ensures) _ _ _ _ _ _ (c .before .before .before .before .before .before .open-log .ensures) (c .before .before .enum-told .given .1) in
+    let p = to-poses _ _ (c .before .before .before .before .before .before .before .before .before .limits .ensures) _ _ _ _ _ _ (c .before .before .before .before .before .before .open-log .ensures .0) (c .before .before .enum-told .given .1) in
     met-given _ _ _ (p .question) (poses-is _ _ _ _ _ _ p) _ (c .foresee .ensures _ _ _ (p .accepts) (p .question) (p .is))
 
 pub forecast-spec : {M : Type 1} → statement M

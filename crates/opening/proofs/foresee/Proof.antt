@@ -9,8 +9,8 @@ use borrow.Author.Needs.{needs}
 use Rattle.model.specs.Formula.{Formula}
 use Rattle.lattice.proofs.Forecast.{Low}
 use Rattle.frame.proofs.Steps.{bounded-up}
-use Rattle.opening.proofs.Logs.{question-count, question-there, good-at}
-use Rattle.opening.proofs.Foreseen.{costs, few-bytes, sound-here, foreseen, foreseen-low}
+use Rattle.opening.proofs.Logs.{question-count, question-there}
+use Rattle.opening.proofs.Foreseen.{costs, few-bytes, figures-here, foreseen, foreseen-low}
 use Rattle.opening.proofs.foresee.Statement.{statement}
 use Rattle.opening.proofs.foresee.Tie as tie
 
@@ -26,7 +26,7 @@ low : (c : tie.After-figures) → Low (costs (c .figures .result) (c .before .be
 low c =
     let h = c .before .before .before .before .pre .1 .1 in
     let f = there (c .before) in
-    foreseen-low (h .accepts) _ (f .0) (f .1) (h .small) _ (c .figures .ensures (f .0) (c .before .asked .ensures _ _ _ (h .accepts) (f .0) (f .1)) (sound-here (h .accepts) _ (f .0) (f .1)) (good-at (h .accepts) _ (f .0) (f .1) .1) (good-at (h .accepts) _ (f .0) (f .1) .2))
+    foreseen-low (h .accepts) _ (f .0) (f .1) (h .small) _ (figures-here (h .accepts) _ (f .0) (f .1) (c .before .asked .ensures _ _ _ (h .accepts) (f .0) (f .1)) (c .figures .ensures))
 
 few : (c : tie.After-figures) → (c .before .before .before .before .args .loaded .state .stations ≤ 8) × (c .before .before .before .before .args .loaded .state .events + 1 ≤ 255)
 few c =
@@ -77,7 +77,7 @@ mul-t19 : tie.Need-mul-t19
 mul-t19 c = omega (arith, low (c .before .before .before .before) .ceiling)
 
 returns : tie.Need-returns
-returns c = λ m log t a f is. foreseen a _ f is _ (c .before .before .before .before .figures .ensures f (c .before .before .before .before .before .asked .ensures m log t a f is) (sound-here a _ f is) (good-at a _ f is .1) (good-at a _ f is .2))
+returns c = λ m log t a f is. foreseen a _ f is _ (figures-here a _ f is (c .before .before .before .before .before .asked .ensures m log t a f is) (c .before .before .before .before .figures .ensures))
 
 pub foresee-spec : {M : Type 1} → statement M
 foresee-spec =

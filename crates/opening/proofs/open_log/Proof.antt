@@ -20,7 +20,12 @@ same-length-2 : tie.Need-same-length-2
 same-length-2 c = search needs
 
 returns : tie.Need-returns
-returns c = opens-posed _ _ _ _ _ _ _ (c .before .before .before .before .before .before .before .before .before .load .ensures .0) (c .before .before .before .enum-told2 .given .1) (c .if1 .taken)
+returns c =
+    let l = c .before .before .before .before .before .before .before .before .before .load in
+    (opens-posed _ _ _ _ _ _ _ (l .ensures .0) (c .before .before .before .enum-told2 .given .1) (c .if1 .taken), l .ensures .1)
+
+refused-requires : tie.Need-refused-requires
+refused-requires c κs = search needs
 
 same-length-3 : tie.Need-same-length-3
 same-length-3 c = search needs
@@ -29,7 +34,10 @@ same-length-4 : tie.Need-same-length-4
 same-length-4 c = search needs
 
 returns-2 : tie.Need-returns-2
-returns-2 c = let g = c .enum-told .given in opens-refused _ _ _ _ _ _ _ (c .before .before .before .before .before .before .load .ensures .0) (g .0 .0) (g .1)
+returns-2 c =
+    let l = c .before .before .before .before .before .before .load in
+    let g = c .enum-told .given in
+    (opens-refused _ _ _ _ _ _ _ (l .ensures .0) (g .0 .0) (g .1), l .ensures .1)
 
 same-length-5 : tie.Need-same-length-5
 same-length-5 c = search needs
@@ -38,7 +46,9 @@ same-length-6 : tie.Need-same-length-6
 same-length-6 c = search needs
 
 returns-3 : tie.Need-returns-3
-returns-3 c = let l = c .before .before .before .before .before .before .before .before .before .load in opens-without _ _ _ (l .result) _ _ _ (l .ensures .0) (c .before .before .before .enum-told2 .given .1) (c .if1 .left)
+returns-3 c =
+    let l = c .before .before .before .before .before .before .before .before .before .before .load in
+    (opens-without _ _ _ (l .result) _ _ _ (l .ensures .0) (c .before .before .before .before .enum-told2 .given .1) (c .before .if1 .left) _ (c .refused .ensures), rw (c .refused .ensures) (l .ensures .1))
 
 pub open-log-spec : {M : Type 1} → statement M
 open-log-spec =
@@ -50,6 +60,7 @@ open-log-spec =
     same-length
     same-length-2
     returns
+    refused-requires
     same-length-3
     same-length-4
     returns-2

@@ -1,5 +1,6 @@
 -- `picking::number_of` meets its contract.
-use mathlib.Core.Path.{ap, _∙_}
+use mathlib.Core.Path.{refl, ap, _∙_}
+use native.Mathlib.Omega.{arith}
 use Rattle.slots.specs.Slots.{number}
 use borrow.Author.Needs.{needs}
 use Rattle.picking.proofs.number_of.Statement.{statement}
@@ -9,7 +10,7 @@ wide-requires : tie.Need-wide-requires
 wide-requires c κs = search needs
 
 returns : tie.Need-returns
-returns c = search needs
+returns c = (λ K s e h. absurd (omega (arith, c .if1 .taken, c .before .wide .ensures .0)), λ h. refl)
 
 number-requires : tie.Need-number-requires
 number-requires c κs = search needs
@@ -18,7 +19,7 @@ cast-result : tie.Need-cast-result
 cast-result c = search needs
 
 returns-2 : tie.Need-returns-2
-returns-2 c K s e h = c .number .ensures .1 K s e ∙ ap (number K s) (c .before .before .wide .ensures .0)
+returns-2 c = (λ K s e h. c .number .ensures .1 K s e ∙ ap (number K s) (c .before .before .wide .ensures .0), λ h. absurd (omega (arith, c .before .if1 .left, c .before .before .wide .ensures .0)))
 
 pub number-of-spec : {M : Type 1} → statement M
 number-of-spec = tie.close (tie.spec wide-requires returns number-requires cast-result returns-2)

@@ -108,7 +108,7 @@ loop-again c =
       length-set (l .marks) (v .result) (r .result) ∙ l .inv .3,
       l .inv .4,
       λ K A e f h. picked-more K (a .s) A (l .marks) (l .k) (v .result) (r .result) (omega (arith, l .inv .1, l .inv .3, t, v .ensures .0)) (v .ensures .1 K (a .s) e)
-          (from-rows K (a .s) A (a .ws .now) (a .from) (a .x .n) (l .k) (v .result) (i .result) (r .result) (l .inv .2) h (omega (arith, t, f)) (v .ensures .1 K (a .s) e) (λ g. i .ensures K (a .s) e (omega (arith, g, f))) (r .ensures)) (l .inv .5 K A e f h),
+          (from-rows K (a .s) A (a .ws .now) (a .from) (a .x .n) (l .k) (v .result) (i .result) (r .result) (l .inv .2) h (omega (arith, t, f)) (v .ensures .1 K (a .s) e) (λ g. i .ensures .0 K (a .s) e (omega (arith, g, f))) (r .ensures)) (l .inv .5 K A e f h),
       λ j g. getD-set-other (l .marks) (v .result) j (r .result) 0 (λ y. omega (arith, y, g, l .inv .1, t, v .ensures .0)) ∙ l .inv .6 j g,
     )
 
