@@ -1,8 +1,6 @@
 -- What every admitted frame keeps: the laws of clocks, the limits, and the agreement of questions and frames.
 use mathlib.Core.Path.{_≡_, refl, ap, _∙_}
-use mathlib.Core.Logic.{inl, inr}
-use Prim.Native.Nat.{ℕ, zero, suc, _+_, _≤_, _<_}
-use native.Mathlib.Decide.{decLe}
+use Prim.Native.Nat.{ℕ, suc, _+_, _≤_, _<_}
 use native.Mathlib.Omega.{arith}
 use mathlib.Core.Bool.{Bool, true, false}
 use mathlib.Core.List.{List, [], _∷_, _++_}
@@ -11,12 +9,12 @@ use lib.ListN.{length, getD, drop, getElem?, length-append, length-drop, List·g
 use borrow.Author.Tests.{ltb-true}
 use Rattle.model.specs.declared.Limits.{Limits}
 use Rattle.model.specs.Formula.{Formula, sound}
-use Rattle.model.specs.Computation.{Report, Event, Message, Computation, stations, count, eventCount, noReport, report}
+use Rattle.model.specs.Computation.{Report, Event, Message, Computation, stations, eventCount, noReport, report}
 use Rattle.model.specs.Rules.{asTrue, workable}
 use Rattle.model.specs.Size.{fits}
 use Rattle.model.specs.Reading.{Reading, begun, nothing, go, reportSize, reportOf, reportsOf, headerKind, opened, stationOf, eventOf, extended, messageOf, informed, admit}
 use Rattle.lattice.proofs.Valid.{Valid}
-use Rattle.lattice.proofs.Histories.{report-none, report-opened, stations-opened, count-opened, eventCount-opened, stations-extended, old-or-new, report-old, report-new, eventCount-extended}
+use Rattle.lattice.proofs.Histories.{stations-opened, eventCount-opened, stations-extended, eventCount-extended, opened-each, extended-each}
 use Rattle.lattice.proofs.Clocks.{opened-valid, extended-valid, informed-valid}
 use Rattle.lattice.proofs.Reports.{header-kind, plain-reports}
 use Rattle.codec.proofs.Cases.{none-some}
@@ -50,22 +48,11 @@ pub record Lawful (m : Limits) (r : Reading) : Type 0 where
 
 -- PANELS
 
-panel-of : {x y : Report} → x ≡ y → x .panel ≡ y .panel
-panel-of e = ap (λ (x : Report). x .panel) e
-
 opened-plain : (reports : List Report) → ((j : ℕ) → getD reports j noReport .panel ≡ 0) → Plain (opened reports)
-opened-plain reports h j zero = panel-of (report-opened reports j) ∙ h j
-opened-plain reports h j (suc k) = panel-of (report-none (opened reports) j (suc k) (omega (arith, count-opened reports j)))
+opened-plain = opened-each (λ x. x .panel ≡ 0) refl
 
 extended-plain : (K : Computation) (s : ℕ) (e : Event) → s < length (K .events) → Plain K → e .report .panel ≡ 0 → Plain (extended K s e)
-extended-plain K s e there old new j k =
-    elim (decLe k (count (extended K s e) j)) [
-      | yes l ↦ elim (old-or-new K s e there j k l) [
-        | inl b ↦ panel-of (report-old K s e there j k b) ∙ old j k
-        | inr p ↦ rw (p .0, p .1) (panel-of (report-new K s e there) ∙ new)
-      ]
-      | no l ↦ panel-of (report-none (extended K s e) j k (omega arith))
-    ]
+extended-plain = extended-each (λ x. x .panel ≡ 0) refl
 
 -- A report that carries none.
 plain-report : (p : Bool) (f : List ℕ) → p ≡ false → reportOf p f .panel ≡ 0
@@ -180,7 +167,7 @@ admitted-lawful {m} {r} law (a-message {f = f} begun none-asked room form ok) = 
   few-questions = law .few-questions;
   good = rw same (law .good);
   headed = λ h. header-kept (r .frames) (law .headed (begun-true r begun)) (some-frames law begun) (0x25 ∷ f);
-  plain = λ h j k. panel-of (report-informed K x j k) ∙ law .plain h j k;
+  plain = λ h j k. rw (report-informed K x j k) (law .plain h j k);
   framed = rw unasked (framed-other (0x25 ∷ f) (omega arith) (rw unasked at (law .framed)));
   counted = λ h. omega (arith, law .counted (begun-true r begun), eventCount-informed K x, message-more K x, length-append (r .frames) ((0x25 ∷ f) ∷ []));
 }

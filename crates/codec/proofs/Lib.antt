@@ -23,3 +23,6 @@ pub mod Forecast
 pub mod Input
 pub mod Larger
 pub mod Printed
+pub mod Values
+pub mod Before
+pub mod Instances

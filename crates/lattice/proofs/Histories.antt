@@ -144,3 +144,21 @@ module _ (K : Computation) (s : ℕ) (e : Event) (there : s < length (K .events)
   pub report-new : report (extended K s e) s (suc (count K s)) ≡ e .report
   unfolding report
   report-new = ap (λ (x : Event). x .report) event-new
+
+-- EVERY REPORT
+
+-- What holds of each report of the header, and of none, holds of every report then; and after one more event, if it holds of the event's.
+module _ (P : Report → Type 0) (of-none : P noReport) where
+  pub opened-each : (reports : List Report) → ((j : ℕ) → P (getD reports j noReport)) → (j k : ℕ) → P (report (opened reports) j k)
+  opened-each reports h j zero = rw (report-opened reports j) (h j)
+  opened-each reports h j (suc k) = rw (report-none (opened reports) j (suc k) (omega (arith, count-opened reports j))) of-none
+
+  pub extended-each : (K : Computation) (s : ℕ) (e : Event) → s < length (K .events) → ((j k : ℕ) → P (report K j k)) → P (e .report) → (j k : ℕ) → P (report (extended K s e) j k)
+  extended-each K s e there old new j k =
+      elim (decLe k (count (extended K s e) j)) [
+        | yes l ↦ elim (old-or-new K s e there j k l) [
+          | inl b ↦ rw (report-old K s e there j k b) (old j k)
+          | inr p ↦ rw (p .0, p .1, report-new K s e there) new
+        ]
+        | no l ↦ rw (report-none (extended K s e) j k (omega arith)) of-none
+      ]

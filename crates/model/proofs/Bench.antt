@@ -89,6 +89,16 @@ benched = record {
   messages = [];
 }
 
+-- The frames of the bench log with Q.
+pub bench-frames : List (List ℕ)
+bench-frames =
+    (0x10 ∷ 2 ∷ 0 ∷ 0 ∷ 0 ∷ 0 ∷ [])
+    ∷ (0x20 ∷ 0 ∷ 0 ∷ 5 ∷ 1 ∷ 0 ∷ [])
+    ∷ (0x20 ∷ 1 ∷ 0 ∷ 1 ∷ 0 ∷ 1 ∷ [])
+    ∷ (0x20 ∷ 1 ∷ 0 ∷ 2 ∷ 1 ∷ 2 ∷ [])
+    ∷ (0x30 ∷ prefix Q)
+    ∷ []
+
 -- The reply of Holds at a cut of the bench log with Q.
 pub holdsAt : Cut → Reply
 holdsAt c = holdsOp limits (asking Q) 0 c workspaceSize barspaceSize
@@ -132,8 +142,8 @@ interleaved = record {
 }
 
 -- All that is computed with: to unfold this is to unfold what its line names.
-definitions : Unit {0}
-unfolding ascii range panel bench Q asking panelled asking-panels silenced asking-silenced asking-panel-FFFF event holdsAt two-ways three-ways after-events after-messages message sending none-between interleaved sum between every push linesOf digit byte bytes carried items own wellFormed hexDigit hex checkByte line word logOf listOf before entry split framesIn framesOf rangeToken atomBytes operands rangeOf atomOf soundAtom seen within test isInside isOutside sentBy onWay noMessage isTrue isFalse askable next upTo raiseTo passes raiseAtom prefix ahead one two sign token spelt formulasIn single formulaOf sound weigh inside insideAny join clock report known isConsistent counted clockOk messageOk asTrue asFalse workable width bars held slim narrow fits row joined raiseBy raise reaches inSet belongs belongsAny joinRow joinRows greatest keep buildOn build thenRight round onward after run start intersect each pairs below lowered barred basis roundsOfPair roundsOfPairs rounds notInside add tops precedes insert sort trueAt answer inRow fourBytes answerLine refusalLine begun check reportSize reportOf reportsOf headerKind headerForm opened admitHeader eventForm extended unasked unsent admitEvent informed admitMessage asked admitQuestion admit finish proceed readItems readLog readFrames readList readEffect readOp posing openingOf opening cramped forecastReplyTo forecastOp lineEffect answerEffect answerOp holdsReplyTo holdsOp writeEffect writeOp answerLines printedOf printed mostBars ceiling forecast
+unfoldable pub definitions : Unit {0}
+unfolding ascii range panel bench Q asking panelled asking-panels silenced asking-silenced asking-panel-FFFF event benched bench-frames holdsAt two-ways three-ways after-events after-messages message sending none-between interleaved sum between every push linesOf digit byte bytes carried items own wellFormed hexDigit hex checkByte line word logOf listOf before entry split framesIn framesOf rangeToken atomBytes operands rangeOf atomOf soundAtom seen within test isInside isOutside sentBy onWay noMessage isTrue isFalse askable next upTo raiseTo passes raiseAtom prefix ahead one two sign token spelt formulasIn single formulaOf sound weigh inside insideAny join clock report known isConsistent counted clockOk messageOk asTrue asFalse workable width bars held slim narrow fits row joined raiseBy raise reaches inSet belongs belongsAny joinRow joinRows greatest keep buildOn build thenRight round onward after run start intersect each pairs below lowered barred basis roundsOfPair roundsOfPairs rounds notInside add tops precedes insert sort trueAt answer inRow fourBytes answerLine refusalLine begun check reportSize reportOf reportsOf headerKind headerForm opened admitHeader eventForm extended unasked unsent admitEvent informed admitMessage asked admitQuestion admit finish proceed readItems readLog readFrames readList readEffect readOp posing openingOf opening cramped forecastReplyTo forecastOp lineEffect answerEffect answerOp holdsReplyTo holdsOp writeEffect writeOp answerLines printedOf printed mostBars ceiling forecast
 definitions = tt
 
 -- The twelve cases marked *.
@@ -311,17 +321,5 @@ silent = (refl, refl, refl, refl, refl, refl, refl, refl, refl, refl, refl, refl
 
 -- What is promised of accepted logs and their questions is promised of this one.
 pub bench-asked : Asked limits (asking Q) 0 benched Q
-unfolding definitions benched
-bench-asked = record {
-  panelled = false;
-  frames =
-      (0x10 ∷ 2 ∷ 0 ∷ 0 ∷ 0 ∷ 0 ∷ [])
-      ∷ (0x20 ∷ 0 ∷ 0 ∷ 5 ∷ 1 ∷ 0 ∷ [])
-      ∷ (0x20 ∷ 1 ∷ 0 ∷ 1 ∷ 0 ∷ 1 ∷ [])
-      ∷ (0x20 ∷ 1 ∷ 0 ∷ 2 ∷ 1 ∷ 2 ∷ [])
-      ∷ (0x30 ∷ prefix Q)
-      ∷ [];
-  questions = Q ∷ [];
-  reads = refl;
-  is = refl;
-}
+unfolding definitions
+bench-asked = record { panelled = false; frames = bench-frames; questions = Q ∷ []; reads = refl; is = refl }
