@@ -4,6 +4,7 @@ pub mod Snoc
 pub mod Atoms
 pub mod Formulas
 pub mod Frames
+pub mod Entries
 pub mod Hex
 pub mod Lines
 pub mod Logs

@@ -3,7 +3,7 @@ use mathlib.Core.Path.{_≡_, refl, sym, ap, _∙_}
 use mathlib.Core.Bool.{true, false}
 use mathlib.Core.List.{List, [], _∷_, _++_, map, append-assoc, append-nil}
 use mathlib.Core.Option.{Option, none, some}
-use Prim.Native.Nat.{ℕ, _+_, _-_, _*_, _<_, _≤_}
+use Prim.Native.Nat.{ℕ, _+_, _*_, _<_, _≤_}
 use native.Mathlib.Omega.{arith}
 use borrow.Author.Tests.{le-leb, lt-leb}
 use lib.ListN.{length, take, drop, getD, length-append, length-drop}
@@ -25,9 +25,10 @@ use Rattle.frame.specs.declared.Step.the-variants.{Next, Faulty}
 use Rattle.load.specs.declared.Position.{Position}
 use Rattle.frame.specs.State.{Admits}
 use Rattle.load.specs.Loading.{first, Sofar}
-use Rattle.entries.specs.Entries.{formed, frames, Formed, entries, Partly, Entered, Allowed}
+use Rattle.codec.specs.Entries.{formed, frames, Formed, entries}
+use Rattle.entries.specs.Entries.{Partly, Entered, Allowed}
 use Rattle.load.proofs.Loads.{sofar-of, sofar-more, sofar-ends, sofar-first, bounded-fresh, end-empty, end-all}
-use Rattle.entries.proofs.Entries.{Entry, entry-at, taken, entries-end}
+use Rattle.codec.proofs.Entries.{Entry, entry-at, taken, entries-end}
 
 -- READING A LIST
 
@@ -54,10 +55,6 @@ list-formed m list h e = list-read m list h ∙ case (framesOf list) e where
   case (some fs) e = refl
 
 -- ONE ENTRY
-
--- the frame as a part of the list
-pub part : (list : List ℕ) (at k : ℕ) → take (at + 1 + k - (at + 1)) (drop (at + 1) list) ≡ take k (drop (at + 1) list)
-part list at k = let e : at + 1 + k - (at + 1) ≡ k = omega arith in rw e
 
 module _ {m : Limits} {list t : List ℕ} {p : Position} (w : Partly m list p t) (h : p .length < length list) (k : ℕ) (is : k ≡ getD list (p .length) 0) where
   pub here : Entry list (p .length) k

@@ -1,13 +1,11 @@
 -- The frames of a frame list, and how far Write has come in it.
 use mathlib.Core.Path.{_≡_}
 use Prim.Native.Nat.{ℕ, _+_, _≤_, _<_}
-use mathlib.Core.Bool.{Bool, true, false}
-use mathlib.Core.List.{List, [], map}
-use mathlib.Core.Option.{Option, none, some}
+use mathlib.Core.List.{List, map}
 use lib.ListN.{length, drop}
 use Rattle.model.specs.declared.Limits.{Limits}
 use Rattle.model.specs.Bytes.{frame}
-use Rattle.model.specs.Frames.{framesOf}
+use Rattle.codec.specs.Entries.{Formed, entries}
 use Rattle.model.specs.Reading.{Reading, refused, accepted, readList}
 use Rattle.model.specs.Reply.{number}
 use Rattle.frame.specs.declared.Step.{Step}
@@ -17,23 +15,6 @@ use Rattle.load.specs.declared.Acceptance.{Acceptance}
 use Rattle.load.specs.declared.Acceptance.the-variants.{Accepted, Refused}
 use Rattle.frame.specs.State.{Bounded}
 use Rattle.load.specs.Loading.{Sofar}
-
--- Are there frames?
-abbrev pub formed : Option (List (List ℕ)) → Bool
-formed none = false
-formed (some fs) = true
-
-abbrev pub frames : Option (List (List ℕ)) → List (List ℕ)
-frames none = []
-frames (some fs) = fs
-
--- The list has the form of a frame list.
-abbrev pub Formed : List ℕ → Type 0
-Formed l = formed (framesOf l) ≡ true
-
--- The frames of a list.
-abbrev pub entries : List ℕ → List (List ℕ)
-entries l = frames (framesOf l)
 
 -- The frames before p were admitted under the limits m.
 pub record Partly (m : Limits) (list : List ℕ) (p : Position) (t : List ℕ) : Type 0 where

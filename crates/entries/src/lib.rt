@@ -12,7 +12,8 @@ ghost use Rattle.model.specs.Limits.{limits, storeSize};
 ghost use Rattle.model.specs.Frames.{framesOf, logOf};
 ghost use Rattle.codec.specs.Limits.{NoLarger};
 ghost use Rattle.cells.specs.Put.{putOf};
-ghost use Rattle.entries.specs.Entries.{formed, Formed, entries, Partly, Entered, Tried};
+ghost use Rattle.codec.specs.Entries.{formed, Formed, entries};
+ghost use Rattle.entries.specs.Entries.{Partly, Entered, Tried};
 
 // Is each length from 1 to 99, and no frame past the end?
 pub fn lengths_ok(list: &[u8]) -> bool

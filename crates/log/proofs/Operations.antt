@@ -26,7 +26,8 @@ use Rattle.frame.specs.declared.State.{State}
 use Rattle.load.specs.declared.Acceptance.{Acceptance}
 use Rattle.load.specs.declared.Acceptance.the-variants.{Accepted, Refused}
 use Rattle.load.specs.Loading.{Accepts}
-use Rattle.entries.specs.Entries.{entries, Allowed, Tried}
+use Rattle.codec.specs.Entries.{entries}
+use Rattle.entries.specs.Entries.{Allowed, Tried}
 
 -- READ
 

@@ -5,8 +5,8 @@ use Prim.Native.Nat.{_≤_, _-_}
 use native.Mathlib.Omega.{arith}
 use lib.ListN.{length, drop}
 use Rattle.model.specs.Frames.{framesOf}
-use Rattle.entries.specs.Entries.{formed}
-use Rattle.entries.proofs.Entries.{too-low, too-high, past-end, in-form, entries-end}
+use Rattle.codec.specs.Entries.{formed}
+use Rattle.codec.proofs.Entries.{too-low, too-high, past-end, in-form, entries-end}
 use Rattle.entries.proofs.lengths_ok.Statement.{statement}
 use Rattle.entries.proofs.lengths_ok.Tie as tie
 

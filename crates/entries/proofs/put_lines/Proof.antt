@@ -3,8 +3,8 @@ use borrow.Author.Needs.{needs}
 use Prim.Native.Nat.{_-_}
 use native.Mathlib.Omega.{arith}
 use lib.ListN.{length, length-take, length-drop}
-use Rattle.entries.proofs.Entries.{Entry}
-use Rattle.entries.proofs.Writes.{Lined, lined-none, entry, part, room, lined-more, lined-length, lined-all}
+use Rattle.codec.proofs.Entries.{Entry, part}
+use Rattle.entries.proofs.Writes.{Lined, lined-none, entry, room, lined-more, lined-length, lined-all}
 use Rattle.entries.proofs.put_lines.Statement.{statement}
 use Rattle.entries.proofs.put_lines.Tie as tie
 

@@ -1,8 +1,8 @@
 -- The entry at p has its form, so its frame can be lent; the step follows from what `admit` ensures. Assumes nothing.
 use native.Mathlib.Omega.{arith}
 use lib.ListN.{length-take, length-drop}
-use Rattle.entries.proofs.Entries.{Entry}
-use Rattle.entries.proofs.Writes.{here, part, entered-next, entered-ends}
+use Rattle.codec.proofs.Entries.{Entry, part}
+use Rattle.entries.proofs.Writes.{here, entered-next, entered-ends}
 use borrow.Author.Needs.{needs}
 use Rattle.entries.proofs.try_entry.Statement.{statement}
 use Rattle.entries.proofs.try_entry.Tie as tie

@@ -6,7 +6,8 @@ use Rattle.codec.proofs.Bytes.{Bytes}
 use Rattle.model.specs.Limits.{limits}
 use Rattle.codec.proofs.Suited.{suitable}
 use Rattle.load.proofs.Loads.{no-larger}
-use Rattle.entries.specs.Entries.{Formed, Allowed}
+use Rattle.codec.specs.Entries.{Formed}
+use Rattle.entries.specs.Entries.{Allowed}
 use Rattle.entries.proofs.Writes.{list-long, list-unformed, allowed-frames}
 use Rattle.log.proofs.Operations.{tried-accepted, tried-refused, write-refused, write-no-room, write-done}
 use borrow.Author.Needs.{needs}

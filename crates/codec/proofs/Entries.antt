@@ -12,9 +12,9 @@ use lib.ListN.{length, take, drop, getD, length-drop, drop-of-length-le}
 use lib.Seq.{drop-cons, drop-drop, take-add, length-take-le}
 use Rattle.model.specs.Lists.{between}
 use Rattle.model.specs.Frames.{before, entry, framesOf}
 use Rattle.codec.proofs.Cases.{between-true, between-in}
 use Rattle.codec.proofs.Frames.{frames-none, frames-entry}
-use Rattle.entries.specs.Entries.{formed, frames, Formed, entries}
+use Rattle.codec.specs.Entries.{formed, frames, Formed, entries}
 
 formed-before : (f : List ℕ) (o : Option (List (List ℕ))) → formed (before f o) ≡ formed o
 unfolding before
@@ -95,3 +95,7 @@ module _ (list : List ℕ) (at k : ℕ) (h : at < length list) (is : k ≡ getD 
 -- no entry is left
 pub entries-end : (list : List ℕ) (at : ℕ) → length list ≤ at → framesOf (drop at list) ≡ some []
 entries-end list at h = ap framesOf (drop-of-length-le list h) ∙ frames-none
+
+-- The frame as a part of the list.
+pub part : (list : List ℕ) (at k : ℕ) → take (at + 1 + k - (at + 1)) (drop (at + 1) list) ≡ take k (drop (at + 1) list)
+part list at k = let e : at + 1 + k - (at + 1) ≡ k = omega arith in rw e
