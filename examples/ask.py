@@ -21,12 +21,14 @@ from typing import NamedTuple
 TARGET = pathlib.Path(__file__).resolve().parent.parent / "target"
 ARCHIVE, SHARED = TARGET / "staticlib" / "libexports.a", TARGET / "libmoment.so"
 
-# The most bytes of a log; what Read, Answer and Holds are lent.
+# The most bytes of a log, which Write and Merge are lent; what Read, Answer and Holds are lent.
 LOG, LIST, BARS, LINE = 16384, 8192, 8192, 273
 
 # The functions called, with their parameters: a question is a number, and each other one a slice, a pointer and a length.
 CALLS = {
     "moment_read": ["log", "out"],
+    "moment_write": ["list", "out"],
+    "moment_merge": ["log", "second", "out"],
     "moment_forecast": ["log", "question"],
     "moment_answer": ["log", "question", "ws", "bs", "out"],
     "moment_holds": ["log", "question", "cut", "ws", "bs"],
@@ -34,7 +36,7 @@ CALLS = {
 
 
 class Refusal(Exception):
-    """Its number, 1 to 16, and the line of the log that is at fault, from 1, or 0 where no one line is."""
+    """Its number, 1 to 18, and the line of the log that is at fault, from 1, or 0 where no one line is."""
 
     def __init__(self, number, line):
         super().__init__(number, line)
@@ -107,9 +109,40 @@ class Library:
             raise Refusal(reply >> 59, reply % (1 << 59))
         return reply
 
+    def _read(self, log):
+        """The counts of a log, and its frame list."""
+        out = ctypes.create_string_buffer(LIST)
+        counts = Read(*split(self._call("moment_read", bytes(memoryview(log)), out), 8, 8, 8, 16))
+        return counts, out.raw[:counts.list]
+
     def read(self, log):
         """The counts of a log."""
-        return Read(*split(self._call("moment_read", bytes(memoryview(log)), ctypes.create_string_buffer(LIST)), 8, 8, 8, 16))
+        return self._read(log)[0]
+
+    def frames(self, log):
+        """The frames of a log, each without its check byte."""
+        frames, rest = [], self._read(log)[1]
+        while rest:
+            size = rest[0] + 1
+            frames.append(rest[1:size])
+            rest = rest[size:]
+        return frames
+
+    def _log(self, name, *arguments):
+        """The log that a function writes."""
+        out = ctypes.create_string_buffer(LOG)
+        length = self._call(name, *arguments, out)
+        return out.raw[:length]
+
+    def write(self, frames):
+        """The log of frames, each without its check byte. A frame whose length is no byte has the length 0, which is refused."""
+        sized = [(len(frame) if len(frame) < 256 else 0, frame) for frame in map(bytes, frames)]
+        return self._log("moment_write", b"".join(bytes([size]) + frame for size, frame in sized))
+
+    def merge(self, log, second):
+        """The log that two logs make: the stations of the second numbered on behind those of the first, and the questions of the first.
+        A refusal's line is that of the log refused: of the first if `read` refuses it, else of the second."""
+        return self._log("moment_merge", bytes(memoryview(log)), bytes(memoryview(second)))
 
     def forecast(self, log, question):
         """What a question, numbered from 0, can cost."""

@@ -4,15 +4,17 @@
 Usage: bindings.py      after `rt staticlib exports` and `cargo build --release -p compare`; exit code 1 on any difference
 Declarations and limits are compared with crates/exports and crates/model, wherever they stand. examples/ask.c is compiled by the command
 that it gives, and what it and examples/ask.py print for the logs of examples/ and for hostile input is compared with each other, with
-`compare forecast` and with Holds.
+`compare forecast` and with Holds. What Merge makes of two logs is compared in C, C++ and Python, and with what it promises.
 """
+import ctypes
+import itertools
 import pathlib
 import re
 import subprocess
 import sys
 import tempfile
 
-from frames import ONE, atom, clear, in_turn, log_of
+from frames import ONE, atom, clear, in_turn, log_of, message, panel, wrong_check
 
 ROOT = pathlib.Path(__file__).resolve().parent.parent
 ARCHIVE, COMPARE, ASK = ROOT / "target/staticlib/libexports.a", ROOT / "target/cargo/release/compare", ROOT / "target/ask"
@@ -20,6 +22,7 @@ EXAMPLES = sorted((ROOT / "examples").glob("*.log"))
 WARNINGS = ["-Wall", "-Wextra", "-Wpedantic", "-Werror", "-Wconversion"]
 READ, WRITTEN, NUMBER = "const uint8_t *", "uint8_t *", "size_t"
 STEP = 5  # bytes between two edits of a log
+LENT = 0xA5  # what an output holds before the call
 
 sys.dont_write_bytecode = True
 sys.path.insert(0, str(ROOT / "examples"))
@@ -192,6 +195,127 @@ def same(library):
                 due(f"{name}: ask.py", (got.stdout.decode(), got.stderr, got.returncode), (text, b"", code))
 
 
+# MERGE
+
+# The worked example of docs/FORMAT.md: two logs, and what each makes with the other behind it.
+PLAIN = b"""100200000000EE
+200000050100DA
+200100010001DD
+200100020102DA
+2500010102D7
+3003010000050005010100010001BE
+"""
+PANELS = b"""11020000000700000008DE
+2000000500090100D1
+2001000100080001D5
+2001000200090102D1
+2500010100D9
+30080100000009BE
+"""
+PANELS_BEHIND = b"""110400000000000000000000000700000008DC
+20000005000001000000DA
+20010001000000010000DD
+20010002000001020000DA
+20020005000900000100CF
+20030001000800000001D3
+20030002000900000102CF
+2500010102D7
+2502010300D5
+3003010000050005010100010001BE
+"""
+PLAIN_BEHIND = b"""110400000007000000080000000000000000DC
+20000005000901000000D1
+20010001000800010000D5
+20010002000901020000D1
+20020005000000000100D8
+20030001000000000001DB
+20030002000000000102D8
+2500010100D9
+2502010302D3
+30080100000009BE
+"""
+
+
+def of_size(stations, events, messages):
+    """A log of so many stations, events in turn and messages that never came."""
+    return log_of([[0x10, stations] + [0, 0] * stations, *in_turn(stations, events, lambda i: i % 3), *[message(0, 1, 1)] * messages])
+
+
+def pairs():
+    """Two logs by name, the bytes lent as output, and what is due where it is given: a log, or a refusal's number and line."""
+    yield "the example", PLAIN, PANELS, ask.LOG, PANELS_BEHIND
+    yield "the example, exchanged", PANELS, PLAIN, ask.LOG, PLAIN_BEHIND
+    for one, two in itertools.product(EXAMPLES, repeat=2):
+        yield f"{one.name} and {two.name}", one.read_bytes(), two.read_bytes(), ask.LOG, None
+    four, most, lines = of_size(4, 127, 32), of_size(4, 254, 0), PLAIN.splitlines(True)
+    yield "all that a log may hold", four, four, ask.LOG, None
+    yield "9 stations", four, of_size(5, 1, 0), ask.LOG, (17, 0)
+    yield "255 events", four, of_size(4, 128, 32), ask.LOG, (18, 0)
+    yield "65 messages", four, of_size(4, 127, 33), ask.LOG, (18, 0)
+    yield "9 stations and 255 events, nothing lent", most, of_size(5, 1, 0), 0, (17, 0)
+    yield "255 events, nothing lent", most, of_size(4, 1, 0), 0, (18, 0)
+    yield "16,383 bytes lent", PLAIN, PANELS, ask.LOG - 1, (12, 0)
+    yield "nothing lent", PLAIN, PANELS, 0, (12, 0)
+    yield "first, line 3", b"".join(lines[:2]) + wrong_check([0x20, 1, 0, 1, 0, 1]), most, 0, (3, 3)
+    yield "second, line 7", PLAIN, PLAIN + b"G\n", 0, (2, 7)
+    yield "second, its question", PLAIN, PLAIN + log_of([[0x30] + panel(2)]), ask.LOG, (8, 7)
+    yield "second, its question, of a station of the first", of_size(4, 8, 0), PLAIN + log_of([[0x30] + atom(3)]), ask.LOG, (8, 7)
+    yield "both, the first's later", PLAIN + b"00\n", b"\n", ask.LOG, (2, 7)
+    yield "first empty", b"", PLAIN, ask.LOG, (4, 1)
+    yield "second empty", PLAIN, b"", ask.LOG, (4, 1)
+    yield "first too long", b"0" * (ask.LOG + 1), b"", ask.LOG, (1, 0)
+    yield "second too long", most, b"0" * (ask.LOG + 1), ask.LOG, (1, 0)
+
+
+def in_python(library, first, second, lent):
+    """The log, or the refusal, in words; and whether all bytes past those written are as lent."""
+    out = ctypes.create_string_buffer(bytes([LENT]) * lent, lent)
+    try:
+        length, told = library._call("moment_merge", first, second, out), None
+    except ask.Refusal as refusal:
+        length, told = 0, f"{refusal}\n".encode()
+    due("output past what is written", set(out.raw[length:]) <= {LENT}, True)
+    return (told or out.raw[:length], int(told is not None))
+
+
+def promised(name, library, first, second, log):
+    """A merged log is accepted, its counts add up, and each answer is the first's, with all of the second's events behind its moments."""
+    one, two, both = (library.read(data) for data in (first, second, log))
+    due(f"{name}: counts", both[:3], (one.stations + two.stations, one.events + two.events, one.questions))
+    ends = [0] * two.stations
+    for frame in library.frames(second):
+        if frame[0] == 0x20:
+            ends[frame[1]] += 1
+    for question in range(one.questions):
+        alone, merged = library.answer(first, question), library.answer(log, question)
+        due(f"{name}: start of question {question}", merged.start, alone.start)
+        due(f"{name}: moments of question {question}", merged.moments, [(*moment, *ends) for moment in alone.moments])
+    due(f"{name}: written again", library.write(library.frames(log)), log)
+
+
+def merges(library):
+    """Every pair in C, C++ and Python."""
+    with tempfile.TemporaryDirectory() as folder:
+        folder, met = pathlib.Path(folder), set()
+        for language in (["gcc", "-std=c99"], ["g++", "-x", "c++", "-std=c++17"]):
+            made = run(*language, *WARNINGS, "-I", "moment/include", "tests/merge.c", "-x", "none", ARCHIVE, "-o", folder / language[0])
+            due(f"merge.c by {language[0]}", (made.returncode, made.stderr), (0, b""))
+        for name, first, second, lent, expected in pairs():
+            told, refused = in_python(library, first, second, lent)
+            met.add(refused and int(told.split()[1].rstrip(b",")))
+            if expected is not None:
+                due(name, told, expected if isinstance(expected, bytes) else b"refused %d, line %d\n" % expected)
+            for k, data in enumerate((first, second)):
+                (folder / f"{k}.log").write_bytes(data)
+            for compiler in ("gcc", "g++"):
+                got = run(folder / compiler, folder / "0.log", folder / "1.log", lent)
+                due(f"{name}: by {compiler}", (got.stdout, got.stderr, got.returncode), (told, b"", refused))
+            if not refused:
+                due(f"{name}: lent by ask.py", library.merge(first, second), told)
+                promised(name, library, first, second, told)
+        due("what came of two logs", met >= {0, 1, 2, 3, 4, 8, 12, 17, 18}, True)
+
+
 def failures(library):
     """What is no log: both programs say so with the same words and exit code, and the module by exceptions."""
     log, null = EXAMPLES[0], "/dev/null"
@@ -219,6 +343,7 @@ def main():
     limits()
     compiled()
     same(library)
+    merges(library)
     failures(library)
     print(f"bindings: {checks} checks, {wrong} wrong")
     sys.exit(wrong > 0)

@@ -102,12 +102,11 @@ def case(letter, data, question=0, cut=(), short=0, cells=WORKSPACE, size=0):
 
 
 def parted(stdin, stdout):
-    """The letter of each case, its log or list, and the lines printed behind the one with its letter."""
+    """The bytes of each case, and what is printed for it."""
     at = 0
     for out in re.split(rb"^(?=[A-Z])", stdout, flags=re.M)[1:]:
-        start = at + 10 + stdin[at + 2]
-        end = start + stdin[at + 8] * 256 + stdin[at + 9]
-        yield chr(stdin[at]), stdin[start:end], out.partition(b"\n")[2]
+        end = at + 10 + stdin[at + 2] + stdin[at + 8] * 256 + stdin[at + 9]
+        yield stdin[at:end], out
         at = end
 
 

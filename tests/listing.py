@@ -4,7 +4,8 @@ the product.
 A log is read with the refusals of document 01 in its order. A set of cuts is the list of its cuts, so raising a cut is a search
 through that list; rounds are counted over such sets. What is on the way at a cut is a search through the list of messages. A station's
 value and panel at a cut are those that its last event carries, or the header. A station that is silent makes a range neither true nor
-false, so truth and falsity are worked out as a pair. What a question can cost is worked out from its formula alone.
+false, so truth and falsity are worked out as a pair. What a question can cost is worked out from its formula alone. Two logs are merged
+frame by frame.
 """
 from collections import namedtuple
 from functools import cache
@@ -324,6 +325,41 @@ def read(data, limits):
     last = lines.pop()
     return read_frames(lines + [None] if last else lines, frame_of, limits)
 
+
+# MERGE
+
+def reported(value, panel, kind):
+    """The bytes of a value, with its panel behind it under a header of kind 11."""
+    return value.to_bytes(2, "big") + (panel.to_bytes(2, "big") if kind == 0x11 else b"")
+
+
+def among(log, f, kind, before, behind):
+    """An event or a message of a log as it stands in a merged one: under a header of this kind, with so many stations before and behind."""
+    if f[0] == 0x25:
+        m = Message(*f[1:])
+        return bytes([0x25, m.sender + before, m.sent, m.receiver + before, m.received])
+    n = len(log.initial)
+    return bytes([0x20, f[1] + before]) + reported(*carried(f[2:-n]), kind) + bytes(before) + f[-n:] + bytes(behind)
+
+
+def merge(first, second, size):
+    """The log of two, where an output of so many bytes is lent for it, or the first fault: document 02, ticket 8."""
+    first, second = read(first, OPERATIONS), read(second, OPERATIONS)
+    n, m = len(first.initial), len(second.initial)
+    if n + m > STATIONS:
+        raise Refused(17)
+    if first.events() + second.events() > OPERATIONS.events or len(first.messages + second.messages) > OPERATIONS.messages:
+        raise Refused(18)
+    if size < OPERATIONS.log:
+        raise Refused(12)
+    kind = 0x11 if 0x11 in (first.header, second.header) else 0x10
+    header = bytes([kind, n + m]) + b"".join(reported(e.value, e.panel, kind) for e in first.initial + second.initial)
+    sides = [(first, 0, m), (second, n, 0)]
+    of = lambda k: [among(log, f, kind, before, behind) for log, before, behind in sides for f in log.frames if f[0] == k]
+    return b"".join(map(encode, [header, *of(0x20), *of(0x25), *(f for f in first.frames if f[0] == 0x30)]))
+
+
+# ANSWERS
 
 class Walk:
     """The structures of a formula, as true or as false. What a structure is, is said by atom, pair, below and barred."""

@@ -1,7 +1,7 @@
 #!/usr/bin/env python3
-"""Tries wrong rules in the independent implementation, and reports how many logs of the corpus tell each apart.
+"""Tries wrong rules in the independent implementation, and reports how many logs of the corpus, or pairs of logs, tell each apart.
 
-Usage: mutants.py      from the repository's root; exit code 1 if fewer than ten logs tell a rule apart
+Usage: mutants.py      from the repository's root; exit code 1 if fewer than ten of them tell a rule apart
 """
 import pathlib
 import re
@@ -23,6 +23,10 @@ TESTED = "tested(field, lo, hi, e.field(field)) == wanted"
 SILENCE = "if field == Field::Value && v == SILENT {"
 REPLY = "return Said::Silent;"
 TAKEN = "        self.history[s].push(Event::new(fields, clock));\n"
+# And of two logs: what they are too many of, the test of the output behind it, and a message of the second.
+WIDE, SENT = "if first.stations() + second.stations() > STATIONS {", "first.messages.len() + second.messages.len() > OPERATIONS.messages"
+TOGETHER = "    together(&first, &second)?;\n    if out.len() < OPERATIONS.log {"
+NUMBERED_ON = "vec![0x25, on(sender), sent, on(receiver), received]"
 
 
 def counted(mark):
@@ -290,10 +294,28 @@ RULES = {
             "        self.history[s].push(e);\n"
     },
     "event with FFFF refused": {TAKEN: "        if fields[..2] == [255; 2] {\n            return Err(Fault::EventStation);\n        }\n" + TAKEN},
+    "17 after 18": {WIDE: f"if first.events + second.events <= OPERATIONS.events && !({SENT}) && {WIDE[3:]}"},
+    "12 before 17 and 18": {TOGETHER: "    if out.len() < OPERATIONS.log {\n        return refused(Fault::Output);\n    }\n    together(&first, &second)?;\n    if false {"},
+    "9 stations together": {WIDE: WIDE.replace("> STATIONS", "> STATIONS + 1")},
+    "65 messages together": {SENT: f"{SENT} + 1"},
+    "second log's refusal first": {"(Log::read(OPERATIONS, data)?, Log::read(OPERATIONS, more)?);": "(Log::read(OPERATIONS, data), Log::read(OPERATIONS, more)?);\n    let first = first?;"},
+    "questions of the second not looked at": {
+        "(Log::read(OPERATIONS, data)?, Log::read(OPERATIONS, more)?);":
+            "(Log::read(OPERATIONS, data)?, more.split_inclusive(|b| *b == 10).take_while(|l| !l.starts_with(b\"30\")).collect::<Vec<_>>().concat());\n"
+            "    let second = Log::read(OPERATIONS, &second)?;"
+    },
+    "messages not numbered on": {NUMBERED_ON: "vec![0x25, sender, sent, receiver, received]"},
+    "receivers not numbered on": {NUMBERED_ON: "vec![0x25, on(sender), sent, receiver, received]"},
+    "panels of header 10 not 0": {"{ &[0, 0] } else": "{ &[0, 1] } else"},
+    "header of the first": {"(first.panels || second.panels, first.stations()": "(first.panels, first.stations()"},
+    "zeros on the other side of clocks": {"&zeros[..before], clock, &zeros[..behind]": "&zeros[..behind], clock, &zeros[..before]"},
+    "events of the second first": {"            out.extend(fs.iter().filter(|f| f[0] == kind)": "            let at = if kind == 0x20 { 1 } else { out.len() };\n            out.splice(at..at, fs.iter().filter(|f| f[0] == kind)"},
+    "questions of both": {"out.extend(frames[0].iter().filter(|f| f[0] == 0x30)": "out.extend(frames.iter().flatten().filter(|f| f[0] == 0x30)"},
 }
 
-# What a case of the corpus prints: what the program does, and of each question its forecast, and what Answer comes to, lent one cell less
-# than that and lent just these cells: a refusal, or a line, which is the program's where that takes the log.
+# What a log of the corpus prints: what the program does, and of each question its forecast, and what Answer comes to, lent one cell less
+# than that and lent just these cells: a refusal, or a line, which is the program's where that takes the log. And what two logs print that
+# are merged.
 TOLD = """
 fn told(data: &[u8]) -> Vec<u8> {
     use fault::{Fault, Refusal};
@@ -318,9 +340,16 @@ fn told(data: &[u8]) -> Vec<u8> {
     }
     [out, refused(Refusal(Fault::NoSuchQuestion, 0), "")].concat()
 }
+fn merged(first: &[u8], second: &[u8], size: usize) -> Vec<u8> {
+    let mut out = vec![165; size];
+    match operations::merge(first, second, &mut out) {
+        Ok(n) => format!("M {n} {} kept\\n", out[..n].iter().map(|b| format!("{b:02x}")).collect::<String>()).into_bytes(),
+        Err(fault::Refusal(fault, line)) => format!("M refused {} {line}  kept\\n", fault.number()).into_bytes(),
+    }
+}
 """
 
-# Tells of the logs of the corpus one by one, by the rule of the number given: a line with a full stop closes each but the last.
+# Prints what is to be printed for the cases one by one, by the rule of the number given, and a line with a full stop behind each.
 MAIN = """
 use std::io::{Read, Write};
 use std::sync::atomic::{AtomicUsize, Ordering::Relaxed};
@@ -328,20 +357,27 @@ static RULE: AtomicUsize = AtomicUsize::new(0);
 fn rule() -> usize {
     RULE.load(Relaxed)
 }
+fn shown(case: &[u8], data: &[u8]) -> Vec<u8> {
+    match case {
+        [b'M', _, _, _, _, _, high, low, _, _, first, rest, ..] => {
+            let (first, second) = data.split_at(*first as usize * 256 + *rest as usize);
+            merged(first, second, *high as usize * 256 + *low as usize)
+        }
+        _ => [&b"E\\n"[..], &told(data)].concat(),
+    }
+}
 fn main() {
     RULE.store(std::env::args().nth(1).unwrap().parse().unwrap(), Relaxed);
     let mut data = Vec::new();
     std::io::stdin().read_to_end(&mut data).unwrap();
     std::panic::set_hook(Box::new(|_| {}));
-    let (mut log, mut out) = (Vec::new(), Vec::new());
-    for line in data.split_inclusive(|&b| b == b'\\n').chain([&b".\\n"[..]]) {
-        if line == b".\\n" {
-            out.extend(std::panic::catch_unwind(|| told(&log)).unwrap_or(b"panicked\\n".to_vec()));
-            out.extend(b".\\n");
-            log.clear();
-        } else {
-            log.extend(line);
-        }
+    let (mut rest, mut out) = (&data[..], Vec::new());
+    while !rest.is_empty() {
+        let (case, after) = rest.split_at(10 + rest[2] as usize);
+        let (data, after) = after.split_at(case[8] as usize * 256 + case[9] as usize);
+        out.extend(std::panic::catch_unwind(|| shown(case, data)).unwrap_or(b"panicked\\n".to_vec()));
+        out.extend(b".\\n");
+        rest = after;
     }
     std::io::stdout().write_all(&out).unwrap();
 }
@@ -392,28 +428,28 @@ def build(folder):
 
 
 def corpus():
-    """The logs of the corpus, and what is to be printed for each."""
+    """The cases of the corpus and of pairs of logs, and what is to be printed for each."""
     made = parted(*((CASES / name).read_bytes() for name in ("stdin", "stdout")))
-    return zip(*[(log, printed) for letter, log, printed in made if letter == "E"])
+    return zip(*[(case, printed) for case, printed in made if case[:1] in (b"E", b"M")])
 
 
-def answers(folder, i, logs):
-    """What is printed for each log by the implementation as it stands, 0, or by a wrong rule."""
-    run = subprocess.run([folder / "main", str(i)], input=b".\n".join(logs), capture_output=True, check=True)
+def answers(folder, i, cases):
+    """What is printed for each case by the implementation as it stands, 0, or by a wrong rule."""
+    run = subprocess.run([folder / "main", str(i)], input=b"".join(cases), capture_output=True, check=True)
     return tuple(run.stdout.split(b".\n")[:-1])
 
 
 def main():
-    logs, expected = corpus()
+    cases, expected = corpus()
     few = False
     with tempfile.TemporaryDirectory() as name:
         folder = pathlib.Path(name)
         build(folder)
-        if answers(folder, 0, logs) != expected:
+        if answers(folder, 0, cases) != expected:
             sys.exit("the implementation as it stands does not print what is expected")
-        print(f"{'wrong rule':36} told apart by, of {len(expected)} logs")
+        print(f"{'wrong rule':36} told apart by, of {len(expected)} logs or pairs")
         for i, rule in enumerate(RULES, 1):
-            told = sum(a != b for a, b in zip(answers(folder, i, logs), expected, strict=True))
+            told = sum(a != b for a, b in zip(answers(folder, i, cases), expected, strict=True))
             few = few or told < LEAST
             print(f"{rule:36} {told}{', too few' if told < LEAST else ''}", flush=True)
     sys.exit(1 if few else 0)

@@ -1,9 +1,10 @@
 #!/usr/bin/env python3
-"""What the pages show of the command floor: each command is run again and has to print what stands below it.
+"""What the pages show of the command floor and of the examples in Python: each command is run again and has to print what stands below it.
 
 Usage: shown.py [FLOOR]        (FLOOR: the built command, target/cargo/release/floor by default)
 
-A command is a line `$ ./floor.sh WORDS` of an indented block, what it prints the lines below it. `cat FILE` shows a file.
+A command is a line `$ ./floor.sh WORDS` or `$ python3 examples/FILE` of an indented block, what it prints the lines below it. `cat FILE`
+shows a file.
 """
 import pathlib
 import shlex
@@ -29,22 +30,30 @@ def commands(text):
     return [(command, "\n".join(lines).strip("\n")) for command, lines in out]
 
 
-def printed(floor, words):
-    done = subprocess.run([floor, *words], cwd=ROOT, capture_output=True, text=True, timeout=60)
+def printed(*command):
+    done = subprocess.run(command, cwd=ROOT, capture_output=True, text=True, timeout=60)
     return done.stdout + done.stderr
+
+
+def told(floor, name, *words):
+    """What a command prints; none of what is not run here."""
+    if name == "./floor.sh":
+        return printed(floor, *words)
+    if name == "python3":
+        return printed(sys.executable, "-B", *words)
+    return (ROOT / words[0]).read_text() if name == "cat" else None
 
 
 def main(floor):
     wrong, shown = [], 0
     for page in PAGES:
         for command, below in commands((ROOT / page).read_text()):
-            words = shlex.split(command)
-            if words[0] not in ("./floor.sh", "cat"):
+            text = told(floor, *shlex.split(command))
+            if text is None:
                 continue
-            told = printed(floor, words[1:]) if words[0] == "./floor.sh" else (ROOT / words[1]).read_text()
             shown += 1
-            if told.strip("\n") != below:
-                wrong.append(f"{page}: `{command}` does not print what is shown, but\n{told}")
+            if text.strip("\n") != below:
+                wrong.append(f"{page}: `{command}` does not print what is shown, but\n{text}")
     print("\n".join(wrong) or f"{shown} commands and files of {' and '.join(PAGES)} are as shown")
     return 1 if wrong or not shown else 0
 

@@ -22,7 +22,7 @@ enum {
     MOMENT_EVENTS = 254,     /* the most events of a log */
     MOMENT_MESSAGES = 64,    /* the most messages of a log */
     MOMENT_QUESTIONS = 16,   /* the most questions of a log */
-    MOMENT_LOG = 16384,      /* the most bytes of a log; what Write is lent as output, or more */
+    MOMENT_LOG = 16384,      /* the most bytes of a log; what Write and Merge are lent as output, or more */
     MOMENT_LIST = 8192,      /* the most bytes of a frame list; what Read is lent as output, or more */
     MOMENT_BARS = 8192,      /* what Answer and Holds are lent as bar space, or more */
     MOMENT_LINE = 273,       /* what Answer is lent as output, or more */
@@ -36,6 +36,11 @@ uint64_t moment_read(const uint8_t *log, size_t log_len, uint8_t *out, size_t ou
 
 /* Write: the length of the log of a frame list; the log goes to the output. */
 uint64_t moment_write(const uint8_t *list, size_t list_len, uint8_t *out, size_t out_len);
+
+/* Merge: the length of the log that two logs make, the second's stations numbered on behind the first's; the log goes to the output. The
+   two may be the same bytes. A refusal's line is that of the log refused: of the first if Read refuses it, else of the second. With 17,
+   18 and 12 it is 0. */
+uint64_t moment_merge(const uint8_t *log, size_t log_len, const uint8_t *second, size_t second_len, uint8_t *out, size_t out_len);
 
 /* Forecast: what a question, numbered from 0, can cost. */
 uint64_t moment_forecast(const uint8_t *log, size_t log_len, size_t question);
@@ -51,7 +56,7 @@ uint64_t moment_holds(const uint8_t *log, size_t log_len, size_t question, const
 
 /* A REPLY, v, of any of them */
 
-/* A refusal's number, 1 to 16; 0 where nothing is refused. */
+/* A refusal's number, 1 to 18; 0 where nothing is refused. */
 static inline unsigned moment_number(uint64_t v) { return (unsigned)(v >> 59); }
 
 /* Whether it is a refusal. */
@@ -103,7 +108,7 @@ static inline struct moment_forecast_figures moment_figures(uint64_t v) {
     return f;
 }
 
-/* Of Write and Answer: the bytes written. */
+/* Of Write, Merge and Answer: the bytes written. */
 static inline size_t moment_length(uint64_t v) { return moment_bits(v, 0, 16); }
 
 /* Of Holds: whether the question is true at the cut. No is false or neither. */

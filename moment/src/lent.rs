@@ -31,6 +31,7 @@ macro_rules! library {
 library! {
     fn moment_read(log: *const u8, log_len: usize, out: *mut u8, out_len: usize) -> u64;
     fn moment_write(list: *const u8, list_len: usize, out: *mut u8, out_len: usize) -> u64;
+    fn moment_merge(log: *const u8, log_len: usize, second: *const u8, second_len: usize, out: *mut u8, out_len: usize) -> u64;
     fn moment_forecast(log: *const u8, log_len: usize, question: usize) -> u64;
     fn moment_answer(
         log: *const u8, log_len: usize, question: usize,
@@ -61,6 +62,13 @@ pub fn read(log: &[u8], out: &mut [u8]) -> Result<Read, Refusal> {
 pub fn write(list: &[u8], out: &mut [u8]) -> Result<usize, Refusal> {
     // SAFETY: as in `read`.
     unpacked(unsafe { moment_write(list.as_ptr(), list.len(), out.as_mut_ptr(), out.len()) })
+}
+
+/// Merge: the log that two logs make goes to the output, which has [`LOG`](crate::LOG) bytes or more; its length. Which of the two a
+/// refusal is of is told by [`read`]: the first's if it refuses that, else the second's, or with 17, 18 and 12 neither's.
+pub fn merge(log: &[u8], second: &[u8], out: &mut [u8]) -> Result<usize, Refusal> {
+    // SAFETY: as in `read`; the two logs are only read, so they may overlap.
+    unpacked(unsafe { moment_merge(log.as_ptr(), log.len(), second.as_ptr(), second.len(), out.as_mut_ptr(), out.len()) })
 }
 
 /// Forecast. Width and bars take five bits each, held six, cells 17 and the ceiling 24.

@@ -33,7 +33,7 @@ pub const EVENTS: usize = 254;
 pub const MESSAGES: usize = 64;
 /// The most questions of a log.
 pub const QUESTIONS: usize = 16;
-/// The most bytes of a log, and of the output of Write, which is fixed.
+/// The most bytes of a log, and of the output of Write and of Merge, which is fixed.
 pub const LOG: usize = 16384;
 /// The most bytes of a frame list, and of the output of Read, which is fixed.
 pub const LIST: usize = 8192;
@@ -119,6 +119,29 @@ pub fn write(list: &[u8]) -> Result<Vec<u8>, Refusal> {
     let length = lent::write(list, &mut log)?;
     log.truncate(length);
     Ok(log)
+}
+
+/// The log that two logs make: the stations of the second numbered on behind those of the first, neither side's clocks knowing the other,
+/// and the questions of the first alone. At a moment of both logs the counts of the first stand before those of the second.
+///
+/// A refusal's line is that of the log refused: of the first if [`read`] refuses it, else of the second; 17 and 18 are of both together.
+///
+/// ```
+/// // A station at 5 after its event, and the question when it is; and a station with an event and no question.
+/// let first = b"10010000EF\n2000000501DA\n30010000050005C5\n";
+/// let second = b"10010000EF\n2000000101DE\n";
+/// let both = moment::merge(first, second)?;
+/// assert_eq!(both, b"100200000000EE\n200000050100DA\n200100010001DD\n30010000050005C5\n");
+/// assert_eq!(moment::answer(first, 0)?.moments, [[1]]);
+/// assert_eq!(moment::answer(&both, 0)?.moments, [[1, 1]]);
+/// assert_eq!(moment::merge(first, b""), Err(moment::Refusal { number: 4, line: 1 }));
+/// # Ok::<(), moment::Refusal>(())
+/// ```
+pub fn merge(log: &[u8], second: &[u8]) -> Result<Vec<u8>, Refusal> {
+    let mut merged = vec![0; LOG];
+    let length = lent::merge(log, second, &mut merged)?;
+    merged.truncate(length);
+    Ok(merged)
 }
 
 /// What a question, numbered from 0, can cost.

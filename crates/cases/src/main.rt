@@ -1,6 +1,6 @@
 // Runs the operations and the program on the cases of standard input, and prints what each hands back and leaves in what was lent to it.
-// A case's letter says what is run: R for Read, W for Write, F for Forecast, A for Answer, H for Holds, P for the program, E for the
-// program and then each question by its forecast, L for the walk over a line, and any other the bases.
+// A case's letter says what is run: R for Read, W for Write, M for Merge, F for Forecast, A for Answer, H for Holds, P for the program, E
+// for the program and then each question by its forecast, L for the walk over a line, and any other the bases.
 use model::ForecastAnswer;
 use model::HoldsAnswer;
 use model::LineAnswer;
@@ -13,7 +13,7 @@ use trial::Case;
 const OUTPUT: usize = Log::BYTES + 8;
 
 // The most that is read.
-const INPUT: usize = 0x0040_0000;
+const INPUT: usize = 0x0048_0000;
 
 // Cells for every question of every accepted log.
 const WORKSPACE: usize = Log::HELD * Log::STATIONS * (Log::EVENTS + 1);
@@ -29,6 +29,21 @@ fn read_case(log: &[u8], out: &mut [u8]) {
 // Writes the frame list of a case.
 fn write_case(list: &[u8], out: &mut [u8]) {
     match log::write(list, out) {
+        WriteAnswer::Written(n) => trial::print_written(n, out),
+        WriteAnswer::Refused(r) => trial::print_unwritten(r, out),
+    }
+}
+
+// Merges the two logs of a case: `length` says in two bytes how many bytes the first has, and the second stands behind them.
+fn merge_case(logs: &[u8], length: &[u8], out: &mut [u8]) {
+    if length.len() != 2 {
+        return;
+    }
+    let first = cells::word(length, 0) as usize;
+    if logs.len() < first {
+        return;
+    }
+    match op_merge::merge(&logs[0..first], &logs[first..], out) {
         WriteAnswer::Written(n) => trial::print_written(n, out),
         WriteAnswer::Refused(r) => trial::print_unwritten(r, out),
     }
@@ -133,6 +148,8 @@ fn run_case(c: Case, cut: &[u8], data: &[u8], ws: &mut [u8], bs: &mut [u8], out:
         read_case(data, out);
     } else if letter == b'W' {
         write_case(data, out);
+    } else if letter == b'M' {
+        merge_case(data, cut, out);
     } else if letter == b'F' {
         forecast_case(data, c.question);
     } else if letter == b'A' {

@@ -5,6 +5,8 @@ use mathlib.Core.List.{List, [], _∷_, _++_}
 use native.Mathlib.Omega.{arith}
 use lib.ListN.{getD, drop}
 use lib.Seq.{getD-drop}
+use Rattle.model.specs.Cut.{empty}
+use Rattle.lattice.proofs.Cuts.{empty-at}
 
 -- Each number is a byte.
 abbrev pub Bytes : List ℕ → Type 0
@@ -34,3 +36,6 @@ bytes-right (x ∷ l) m h = bytes-right l m (bytes-tail x (l ++ m) h)
 
 pub bytes-drop : (n : ℕ) (l : List ℕ) → Bytes l → Bytes (drop n l)
 bytes-drop n l h i = rw getD-drop (h (n + i))
+
+pub bytes-zeros : (n : ℕ) → Bytes (empty n)
+bytes-zeros n i = omega (arith, empty-at n i)

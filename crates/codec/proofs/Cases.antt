@@ -1,6 +1,6 @@
 -- Cases: a test that was passed or not, a result that is there, a property of each of a list.
 use mathlib.Core.Path.{_≡_, refl}
-use mathlib.Core.Bool.{Bool, true, false, cond, _&&_}
+use mathlib.Core.Bool.{Bool, true, false, cond, _&&_, _||_}
 use mathlib.Core.Option.{none, some}
 use Prim.Native.Nat.{ℕ, _≤_}
 use native.Mathlib.Omega.{arith}
@@ -21,6 +21,10 @@ cases false e f g = g refl e
 
 pub and-true : (a b : Bool) → (a && b) ≡ true → (a ≡ true) × (b ≡ true)
 and-true a b = tests.and-true a b .0
+
+pub or-false : (a b : Bool) → (a || b) ≡ false → (a ≡ false) × (b ≡ false)
+or-false true b h = tests.clash refl h
+or-false false b h = (refl, h)
 
 pub between-true : (lo hi v : ℕ) → between lo hi v ≡ true → (lo ≤ v) × (v ≤ hi)
 between-true lo hi v = tests.between-iff lo hi v .0

@@ -23,6 +23,13 @@ pub mod Demands
 pub mod Forecast
 pub mod Input
 pub mod Larger
+pub mod Run
+pub mod MergeBytes
+pub mod MergeRun
+pub mod MergeSides
+pub mod Merge
+pub mod MergeLog
+pub mod MergeParts
 pub mod Printed
 pub mod Values
 pub mod Before

@@ -18,7 +18,7 @@ use Rattle.codec.specs.Limits.{Suitable}
 use Rattle.codec.proofs.Bytes.{Bytes}
 use Rattle.codec.proofs.RoundTrip.{write-then-read, read-then-write}
 
-refuses-gives : {B : Type 0} {k n : ℕ} {values : List ℕ} → refuses k n ≡ gives values → B
+pub refuses-gives : {B : Type 0} {k n : ℕ} {values : List ℕ} → refuses k n ≡ gives values → B
 refuses-gives e = let z : _≡_ {A = ℕ} 0 1 = cc in absurd (omega arith)
 
 -- Where values are given the output was long enough.

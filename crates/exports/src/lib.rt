@@ -7,7 +7,7 @@ use packing::packed_write;
 ghost use mathlib.Core.Path.{_≡_};
 ghost use lib.ListN.{length};
 ghost use Rattle.model.specs.Limits.{limits};
-ghost use Rattle.model.specs.Operations.{readOp, writeOp, forecastOp, answerOp, holdsOp, Kept};
+ghost use Rattle.model.specs.Operations.{readOp, writeOp, mergeOp, forecastOp, answerOp, holdsOp, Kept};
 ghost use Rattle.packing.specs.Packed.{packed, readWidths, writeWidths, forecastWidths, answerWidths, holdsWidths};
 
 // Read: the counts of stations, events and questions and the list's length, or a refusal.
@@ -26,6 +26,15 @@ pub extern "C" fn moment_write(list: &[u8], out: &mut [u8]) -> u64
     ensures { λ _. ⌜ now (out .exit) ≡ writeOp limits (now (list .entry)) (now (out .entry)) .output ⌝ }
 {
     packed_write(log::write(list, out))
+}
+
+// Merge: the merged log's length, or a refusal.
+#[no_mangle]
+pub extern "C" fn moment_merge(log: &[u8], second: &[u8], out: &mut [u8]) -> u64
+    ensures { λ v. ⌜ v ≡ packed writeWidths (mergeOp limits (now (log .entry)) (now (second .entry)) (now (out .entry)) .reply) ⌝ }
+    ensures { λ _. ⌜ now (out .exit) ≡ mergeOp limits (now (log .entry)) (now (second .entry)) (now (out .entry)) .output ⌝ }
+{
+    packed_write(op_merge::merge(log, second, out))
 }
 
 // Forecast: width, largest bar count, structures held, cells and ceiling for the rounds, or a refusal.

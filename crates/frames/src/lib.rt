@@ -7,7 +7,7 @@ ghost use lib.ListN.{length, getD};
 ghost use Rattle.frames.specs.Asks.{Indexed, Asks};
 
 // The frame at an index of a frame list.
-fn frame_at(list: &[u8], index: usize) -> &[u8]
+pub fn frame_at(list: &[u8], index: usize) -> &[u8]
     requires { ⌜ Indexed (now list) index ⌝ }
     ensures { λ r. ⌜ ((x : Indexed (now (list .entry)) index) → now r ≡ getD (x .frames) index []) ⌝ }
 {

@@ -25,13 +25,13 @@ counted-own : (s : ℕ) (v : Cut) → counted s v s ≡ v ! s - 1
 unfolding counted
 counted-own s v = rw (eq-eqb s s refl)
 
-counted-other : (s : ℕ) (v : Cut) (j : ℕ) → j ≢ s → counted s v j ≡ v ! j
+pub counted-other : (s : ℕ) (v : Cut) (j : ℕ) → j ≢ s → counted s v j ≡ v ! j
 unfolding counted
 counted-other s v j d = rw (ne-eqb j s d)
 
 -- What the test of a clock says of each station.
 module _ (K : Computation) (s : ℕ) (v : Cut) (sized : length v ≡ stations K) (ok : clockOk K s v ≡ true) where
-  tests : (v ! s ≡ suc (count K s)) × ((j : ℕ) → j < stations K → known K v j (counted s v j) ≡ true)
+  pub tests : (v ! s ≡ suc (count K s)) × ((j : ℕ) → j < stations K → known K v j (counted s v j) ≡ true)
   unfolding clockOk
   tests =
       let h = and-true (eqb (v ! s) (suc (count K s))) (every (stations K) (λ j. known K v j (counted s v j))) .0 ok in

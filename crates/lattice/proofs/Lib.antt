@@ -42,3 +42,7 @@ pub mod Held
 pub mod Forecast
 pub mod Line
 pub mod Answers
+pub mod Beside
+pub mod BesideSteps
+pub mod BesideTruth
+pub mod BesideAnswer

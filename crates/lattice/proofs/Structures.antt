@@ -95,7 +95,7 @@ row-below S j zero d e = let z : S .least ≡ d = cc in rw (← z) (joinRows-bas
 row-below S j (suc k) d e = joinRows-above (S .rows) (S .least) j k d e
 
 -- An entry of a mapped list.
-getD-map-lt : {A B : Type 0} (f : A → B) (l : List A) (k : ℕ) (a : A) (b : B) → k < length l → getD (map f l) k b ≡ f (getD l k a)
+pub getD-map-lt : {A B : Type 0} (f : A → B) (l : List A) (k : ℕ) (a : A) (b : B) → k < length l → getD (map f l) k b ≡ f (getD l k a)
 getD-map-lt f [] k a b h = absurd (omega arith)
 getD-map-lt f (x ∷ l) zero a b h = refl
 getD-map-lt f (x ∷ l) (suc k) a b h = getD-map-lt f l k a b (omega arith)

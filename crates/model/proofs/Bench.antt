@@ -9,6 +9,7 @@ use mathlib.Core.Bool.{true, false}
 use mathlib.Core.Option.{some}
 use lib.ListN.{drop, replicate}
 use Rattle.model.specs.declared.Aspect.the-variants.{Value, Panel}
+use Rattle.model.specs.declared.Limits.{Limits}
 use Rattle.model.specs.Limits.{limits, printLimits, workspaceSize, barspaceSize, lineSize}
 use Rattle.model.specs.Lists.{sum, between, every}
 use Rattle.model.specs.Bytes.{push, linesOf, digit, byte, bytes, carried, items, hexDigit, hex, checkByte, line}
@@ -27,10 +28,12 @@ use Rattle.model.specs.Structure.{row, joined, raiseBy, raise, reaches, 
 use Rattle.model.specs.Basis.{thenRight, round, onward, after, run, start, intersect, each, pairs, below, lowered, barred, basis}
 use Rattle.model.specs.Rounds.{roundsOfPair, roundsOfPairs, rounds}
 use Rattle.model.specs.Answer.{notInside, add, tops, precedes, insert, sort, trueAt, answer, inRow, fourBytes, answerLine, refusalLine}
-use Rattle.model.specs.Reading.{Reading, begun, fault, check, reportSize, reportOf, reportsOf, headerKind, headerForm, opened, admitHeader, eventForm, extended, unasked, unsent, admitEvent, informed, admitMessage, asked, admitQuestion, admit, finish, proceed, readItems, readLog, readFrames, readList}
+use Rattle.model.specs.Reading.{Reading, nothing, begun, fault, check, reportSize, reportOf, reportsOf, headerKind, headerForm, opened, admitHeader, eventForm, extended, unasked, unsent, admitEvent, informed, admitMessage, asked, admitQuestion, admit, Result, refused, accepted, finish, proceed, readItems, readLog, readFrames, readList}
+use Rattle.model.specs.Beside.{beside}
+use Rattle.model.specs.Merge.{ofKind, reportBytes, reportsBytes, eventBytes, messageBytes, mergedFrames}
 use Rattle.model.specs.Reply.{Reply, gives, refuses}
 use Rattle.model.specs.Promise.{Asked}
-use Rattle.model.specs.Operations.{readEffect, readOp, posing, openingOf, opening, cramped, forecastReplyTo, forecastOp, lineEffect, answerEffect, answerOp, holdsReplyTo, holdsOp, writeEffect, writeOp, answerLines, printedOf, printed}
+use Rattle.model.specs.Operations.{write, readEffect, readOp, posing, openingOf, opening, cramped, forecastReplyTo, forecastOp, lineEffect, answerEffect, answerOp, holdsReplyTo, holdsOp, writeEffect, writeOp, tooWide, tooMany, mergeEffect, mergeOp, answerLines, printedOf, printed}
 
 -- The bytes of a text.
 pub ascii : String → List ℕ
@@ -143,7 +146,7 @@ interleaved = record {
 
 -- All that is computed with: to unfold this is to unfold what its line names.
 unfoldable pub definitions : Unit {0}
-unfolding ascii range panel bench Q asking panelled asking-panels silenced asking-silenced asking-panel-FFFF event benched bench-frames holdsAt two-ways three-ways after-events after-messages message sending none-between interleaved sum between every push linesOf digit byte bytes carried items own wellFormed hexDigit hex checkByte line word logOf listOf before entry split framesIn framesOf rangeToken atomBytes operands rangeOf atomOf soundAtom seen within test isInside isOutside sentBy onWay noMessage isTrue isFalse askable next upTo raiseTo passes raiseAtom prefix ahead one two sign token spelt formulasIn single formulaOf sound weigh inside insideAny join clock report known isConsistent counted clockOk messageOk asTrue asFalse workable width bars held slim narrow fits row joined raiseBy raise reaches inSet belongs belongsAny joinRow joinRows greatest keep buildOn build thenRight round onward after run start intersect each pairs below lowered barred basis roundsOfPair roundsOfPairs rounds notInside add tops precedes insert sort trueAt answer inRow fourBytes answerLine refusalLine begun check reportSize reportOf reportsOf headerKind headerForm opened admitHeader eventForm extended unasked unsent admitEvent informed admitMessage asked admitQuestion admit finish proceed readItems readLog readFrames readList readEffect readOp posing openingOf opening cramped forecastReplyTo forecastOp lineEffect answerEffect answerOp holdsReplyTo holdsOp writeEffect writeOp answerLines printedOf printed mostBars ceiling forecast
+unfolding ascii range panel bench Q asking panelled asking-panels silenced asking-silenced asking-panel-FFFF event benched bench-frames holdsAt two-ways three-ways after-events after-messages message sending none-between interleaved sum between every push linesOf digit byte bytes carried items own wellFormed hexDigit hex checkByte line word logOf listOf before entry split framesIn framesOf rangeToken atomBytes operands rangeOf atomOf soundAtom seen within test isInside isOutside sentBy onWay noMessage isTrue isFalse askable next upTo raiseTo passes raiseAtom prefix ahead one two sign token spelt formulasIn single formulaOf sound weigh inside insideAny join clock report known isConsistent counted clockOk messageOk asTrue asFalse workable width bars held slim narrow fits row joined raiseBy raise reaches inSet belongs belongsAny joinRow joinRows greatest keep buildOn build thenRight round onward after run start intersect each pairs below lowered barred basis roundsOfPair roundsOfPairs rounds notInside add tops precedes insert sort trueAt answer inRow fourBytes answerLine refusalLine begun check reportSize reportOf reportsOf headerKind headerForm opened admitHeader eventForm extended unasked unsent admitEvent informed admitMessage asked admitQuestion admit finish proceed readItems readLog readFrames readList readEffect readOp posing openingOf opening cramped forecastReplyTo forecastOp lineEffect answerEffect answerOp holdsReplyTo holdsOp writeEffect writeOp ofKind reportBytes reportsBytes eventBytes messageBytes mergedFrames tooWide tooMany mergeEffect mergeOp answerLines printedOf printed mostBars ceiling forecast
 definitions = tt
 
 -- The twelve cases marked *.
@@ -318,6 +321,46 @@ pub silent :
     × (printed (asking-panel-FFFF (or (range 0 0xFFFF 0xFFFF) (not (range 0 0xFFFF 0xFFFF)))) ≡ ascii "40000000000000C0\n")
 unfolding definitions
 silent = (refl, refl, refl, refl, refl, refl, refl, refl, refl, refl, refl, refl, refl)
+
+-- Two logs as one: the bench log with a message and Q, and the one with panels, a message that never came and a question: what is written, what is read of it, and the answer, with all of the second's events behind the first's cut. The same the other way round. The refusals of the first, of the second, of both; 17 before 18; 18 for events, and for messages; 12.
+pub first-log : List ℕ
+first-log = bench ++ ascii "2500010102D7\n" ++ line (0x30 ∷ prefix Q)
+
+pub second-log : List ℕ
+second-log = panelled ++ ascii "2500010100D9\n" ++ line (0x30 ∷ prefix (panel 1 0 9))
+
+-- What is written.
+pub merged-logs : List ℕ
+merged-logs = ascii "110400000000000000000000000700000008DC\n20000005000001000000DA\n20010001000000010000DD\n20010002000001020000DA\n20020005000900000100CF\n20030001000800000001D3\n20030002000900000102CF\n2500010102D7\n2502010300D5\n3003010000050005010100010001BE\n"
+
+pub merged-back : List ℕ
+merged-back = ascii "110400000007000000080000000000000000DC\n20000005000901000000D1\n20010001000800010000D5\n20010002000901020000D1\n20020005000000000100D8\n20030001000000000001DB\n20030002000000000102D8\n2500010100D9\n2502010302D3\n30080100000009BE\n"
+
+-- The computation of what was read.
+pub computed : Result → Computation
+computed (refused k n) = nothing .computation
+computed (accepted r) = r .computation
+
+-- Limits of so many stations, events and messages, and a log of so many bytes.
+pub tight : ℕ → ℕ → ℕ → ℕ → Limits
+tight n e x b = record { stations = n; events = e; messages = x; questions = 16; bytes = b; list = 8192 }
+
+pub merging :
+    (mergeOp (tight 4 6 2 234) first-log second-log (replicate 234 0) ≡ write (234 ∷ []) merged-logs (replicate 234 0))
+    × (computed (readLog limits merged-logs) ≡ beside (computed (readLog limits first-log)) (computed (readLog limits second-log)))
+    × (printed merged-logs ≡ ascii "400001010101020000000DAD\n")
+    × (mergeOp (tight 4 6 2 220) second-log first-log (replicate 220 0) ≡ write (220 ∷ []) merged-back (replicate 220 0))
+    × (computed (readLog limits merged-back) ≡ beside (computed (readLog limits second-log)) (computed (readLog limits first-log)))
+    × (printed merged-back ≡ ascii "4001010102010200000000B8\n")
+    × (mergeOp (tight 4 6 2 234) (ascii "\n") second-log [] .reply ≡ refuses 2 1)
+    × (mergeOp (tight 4 6 2 234) first-log (panelled ++ ascii "00") [] .reply ≡ refuses 2 5)
+    × (mergeOp (tight 4 6 2 234) (bench ++ ascii "00") (ascii "\n") [] .reply ≡ refuses 2 5)
+    × (mergeOp (tight 3 5 1 234) first-log second-log [] .reply ≡ refuses 17 0)
+    × (mergeOp (tight 4 5 2 234) first-log second-log [] .reply ≡ refuses 18 0)
+    × (mergeOp (tight 4 6 1 234) first-log second-log [] .reply ≡ refuses 18 0)
+    × (mergeOp (tight 4 6 2 234) first-log second-log [] .reply ≡ refuses 12 0)
+unfolding definitions beside first-log second-log merged-logs merged-back computed tight
+merging = (refl, refl, refl, refl, refl, refl, refl, refl, refl, refl, refl, refl, refl)
 
 -- What is promised of accepted logs and their questions is promised of this one.
 pub bench-asked : Asked limits (asking Q) 0 benched Q

@@ -31,6 +31,10 @@ pub record Computation : Type 0 where
   pub events : List (List Event)
   pub messages : List Message
 
+-- With other messages.
+abbrev pub withMessages : Computation → List Message → Computation
+withMessages K l = record { initial = K .initial; events = K .events; messages = l }
+
 -- The number of stations.
 abbrev pub stations : Computation → ℕ
 stations K = length (K .initial)

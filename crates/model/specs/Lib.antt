@@ -5,6 +5,7 @@ pub mod Looks
 pub mod Frames
 pub mod Cut
 pub mod Computation
+pub mod Beside
 pub mod Atom
 pub mod Formula
 pub mod Truth
@@ -16,6 +17,7 @@ pub mod Basis
 pub mod Rounds
 pub mod Answer
 pub mod Reading
+pub mod Merge
 pub mod Reply
 pub mod Operations
 pub mod Promise

@@ -1,6 +1,6 @@
--- The five operations and the program: what each hands back and leaves in what is lent to it.
+-- The six operations and the program: what each hands back and leaves in what is lent to it.
 use mathlib.Core.Path.{_≡_}
-use Prim.Native.Nat.{ℕ, suc}
+use Prim.Native.Nat.{ℕ, suc, _+_}
 use mathlib.Core.Bool.{Bool, cond, _||_}
 use mathlib.Core.List.{List, [], _∷_, _++_}
 use mathlib.Core.Option.{Option, none, some}
@@ -14,7 +14,8 @@ use Rattle.model.specs.Cut.{Cut}
 use Rattle.model.specs.Computation.{Computation, stations, eventCount, isConsistent}
 use Rattle.model.specs.Forecast.{forecast}
 use Rattle.model.specs.Answer.{trueAt, answer, yesNo, answerLine, refusalLine}
-use Rattle.model.specs.Reading.{Result, refused, accepted, readLog, readList}
+use Rattle.model.specs.Reading.{Reading, Result, refused, accepted, readLog, readList}
+use Rattle.model.specs.Merge.{mergedFrames}
 use Rattle.model.specs.Reply.{Reply, gives, refuses, figures}
 
 -- What is handed back, and the output afterwards.
@@ -114,6 +115,33 @@ writeEffect m (accepted r) out = cond (ltb (length out) (m .bytes)) (refuse 12 0
 -- limits, frame list, output
 unfoldable pub writeOp : Limits → List ℕ → List ℕ → Effect
 writeOp m list out = writeEffect m (readList m list) out
+
+-- MERGE
+
+-- The frames of both logs as one log.
+abbrev pub mergedLog : Reading → Reading → List ℕ
+mergedLog r s = logOf (mergedFrames r s)
+
+-- More stations together than a log may have; more events, or more messages.
+unfoldable pub tooWide : Limits → Reading → Reading → Bool
+tooWide m r s = ltb (m .stations) (stations (r .computation) + stations (s .computation))
+
+unfoldable pub tooMany : Limits → Reading → Reading → Bool
+tooMany m r s = ltb (m .events) (eventCount (r .computation) + eventCount (s .computation)) || ltb (m .messages) (length (r .computation .messages) + length (s .computation .messages))
+
+-- The first log's refusal, then the second's, then what is too much together.
+unfoldable pub mergeEffect : Limits → Result → Result → List ℕ → Effect
+mergeEffect m (refused k n) t out = refuse k n out
+mergeEffect m (accepted r) (refused k n) out = refuse k n out
+mergeEffect m (accepted r) (accepted s) out =
+    cond (tooWide m r s) (refuse 17 0 out)
+    (cond (tooMany m r s) (refuse 18 0 out)
+    (cond (ltb (length out) (m .bytes)) (refuse 12 0 out)
+    (write (length (mergedLog r s) ∷ []) (mergedLog r s) out)))
+
+-- limits, first log, second log, output
+unfoldable pub mergeOp : Limits → List ℕ → List ℕ → List ℕ → Effect
+mergeOp m first second out = mergeEffect m (readLog m first) (readLog m second) out
 
 -- THE PROGRAM
 

@@ -3,21 +3,23 @@ use mathlib.Core.Path.{_≡_}
 use mathlib.Core.Logic.{_↔_, _⊎_}
 use Prim.Native.Nat.{ℕ, suc, _+_, _*_, _^_, _≤_, _<_}
 use mathlib.Core.Bool.{Bool, true}
-use mathlib.Core.List.{List, [], _∷_}
+use mathlib.Core.List.{List, [], _∷_, _++_, map}
 use mathlib.Core.Option.{some}
-use lib.ListN.{length, take, getElem?}
+use lib.ListN.{length, take, drop, getElem?}
 use Rattle.model.specs.declared.Limits.{Limits}
 use Rattle.model.specs.Limits.{limits, printLimits, barspaceSize, lineSize}
 use Rattle.model.specs.Lists.{Some, Member}
 use Rattle.model.specs.Formula.{Formula, signs}
 use Rattle.model.specs.Cut.{Cut, _!_, _⊑_, empty}
-use Rattle.model.specs.Computation.{Computation, Consistent, stations, eventCount}
-use Rattle.model.specs.Truth.{True}
+use Rattle.model.specs.Computation.{Computation, Consistent, stations, full, eventCount}
+use Rattle.model.specs.Truth.{True, False}
 use Rattle.model.specs.Rules.{asTrue}
 use Rattle.model.specs.Forecast.{forecast}
 use Rattle.model.specs.Rounds as rule
 use Rattle.model.specs.Answer.{precedes, inRow, answerLine, refusalLine}
 use Rattle.model.specs.Reading.{Reading, accepted, readLog, readList}
+use Rattle.model.specs.Beside.{beside}
+use Rattle.model.specs.Merge.{carries, mergedFrames}
 use Rattle.model.specs.Reply.{Reply, gives, refuses, figures}
 use Rattle.model.specs.Operations.{write, readOp, forecastOp, answerOp, holdsOp, writeOp, answerLines, printed}
 
@@ -109,6 +111,30 @@ Reread m list reply output =
     → (buffer : List ℕ)
     → m .list ≤ length buffer
     → (n e q : ℕ) × (readOp m (take size output) buffer ≡ write (n ∷ e ∷ q ∷ length list ∷ []) list buffer)
+
+-- MERGE, of the log written for two accepted logs, of which r and s were read
+pub record Merged (m : Limits) (r s : Reading) (log : List ℕ) : Type 0 where
+  -- Read accepts it, and what is read of it is the two computations side by side, with the questions of the first
+  pub reads : readLog m log ≡ accepted (record { panelled = carries r s; computation = beside (r .computation) (s .computation); questions = r .questions; frames = mergedFrames r s })
+  -- a cut is consistent exactly if its two parts are: its first n counts in the first log, the rest in the second
+  pub parts : (c : Cut) → Consistent (beside (r .computation) (s .computation)) c
+      ↔ (Consistent (r .computation) (take (stations (r .computation)) c) × Consistent (s .computation) (drop (stations (r .computation)) c))
+  -- a question of the first is true at a cut exactly if it is true in the first log at the first part, whatever the second part, if both parts are consistent
+  pub when-true : (q : ℕ) (f : Formula) → getElem? (r .questions) q ≡ some f → (c d : Cut) → Consistent (r .computation) c → Consistent (s .computation) d
+      → True (beside (r .computation) (s .computation)) f (c ++ d) ↔ True (r .computation) f c
+  -- the same of false
+  pub when-false : (q : ℕ) (f : Formula) → getElem? (r .questions) q ≡ some f → (c d : Cut) → Consistent (r .computation) c → Consistent (s .computation) d
+      → False (beside (r .computation) (s .computation)) f (c ++ d) ↔ False (r .computation) f c
+  -- so a line that answers it lists each cut that the first's line lists, with all of the second's events behind it, and its start is the same
+  pub answers : (q : ℕ) (f : Formula) → getElem? (r .questions) q ≡ some f → (one two : List ℕ) (a : Answered (r .computation) f one) (b : Answered (beside (r .computation) (s .computation)) f two)
+      → (b .start ≡ a .start) × (b .cuts ≡ map (λ c. c ++ full (s .computation)) (a .cuts))
+
+-- Of what Merge hands back (the log's length) and its output: both logs are accepted, and the log written is one of which the above holds
+abbrev pub Merges : Limits → List ℕ → List ℕ → Reply → List ℕ → Type 0
+Merges m first second reply output =
+    (size : ℕ)
+    → reply ≡ gives (size ∷ [])
+    → (r s : Reading) × (readLog m first ≡ accepted r) × (readLog m second ≡ accepted s) × Merged m r s (take size output)
 
 -- LOGS OF BOTH SIZES, for a log accepted under the limits m, of which r was read: under the limits m′ it is as it was
 pub record Stays (m m′ : Limits) (log : List ℕ) (r : Reading) : Type 0 where

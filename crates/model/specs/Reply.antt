@@ -2,7 +2,7 @@
 use Prim.Native.Nat.{ℕ}
 use mathlib.Core.List.{List, [], _∷_}
 use Rattle.model.specs.declared.Fault.{Fault}
-use Rattle.model.specs.declared.Fault.the-variants.{LongLog, LineForm, CheckByte, Kind, Header, Event, Clock, Formula, Size, NoQuestion, Workspace, Output, Cut, FrameList, Message, Unworkable}
+use Rattle.model.specs.declared.Fault.the-variants.{LongLog, LineForm, CheckByte, Kind, Header, Event, Clock, Formula, Size, NoQuestion, Workspace, Output, Cut, FrameList, Message, Unworkable, TooWide, TooMany}
 use Rattle.model.specs.declared.Refusal.{Refusal}
 use Rattle.model.specs.declared.ReadAnswer.{ReadAnswer}
 use Rattle.model.specs.declared.WriteAnswer.{WriteAnswer}
@@ -38,6 +38,8 @@ number Cut = 13
 number FrameList = 14
 number Message = 15
 number Unworkable = 16
+number TooWide = 17
+number TooMany = 18
 
 abbrev pub refusal : Refusal → Reply
 refusal r = refuses (number (r .fault)) (r .line)
@@ -47,7 +49,7 @@ abbrev pub readReply : ReadAnswer → Reply
 readReply (read.Accepted l) = gives (l .stations ∷ l .events ∷ l .questions ∷ l .list ∷ [])
 readReply (read.Refused r) = refusal r
 
--- Write: the log's length.
+-- Write and Merge: the log's length.
 abbrev pub writeReply : WriteAnswer → Reply
 writeReply (write.Written n) = gives (n ∷ [])
 writeReply (write.Refused r) = refusal r

@@ -125,6 +125,8 @@ pub enum Fault {
     FrameList,
     Message,
     Unworkable,
+    TooWide,
+    TooMany,
 }
 
 // A fault, and the line where it stands, or 0.
@@ -149,7 +151,7 @@ pub enum ReadAnswer {
     Refused(Refusal),
 }
 
-// What Write hands back: the log's length.
+// What Write and Merge hand back: the log's length.
 pub enum WriteAnswer {
     Written(usize),
     Refused(Refusal),

@@ -13,16 +13,17 @@ use Rattle.model.specs.Lists.{sum, total}
 use Rattle.model.specs.Cut.{Cut}
 use Rattle.model.specs.Computation.{isConsistent}
 use Rattle.model.specs.Answer.{trueAt, yesNo}
-use Rattle.model.specs.Reading.{Result, refused, accepted, readLog, readList}
+use Rattle.model.specs.Reading.{Reading, Result, refused, accepted, readLog, readList}
 use Rattle.model.specs.declared.Forecast.{Forecast}
 use Rattle.model.specs.declared.Fault.{Fault}
-use Rattle.model.specs.declared.Fault.the-variants.{LongLog, LineForm, CheckByte, Kind, Header, Event, Clock, Formula, Size, NoQuestion, Workspace, Output, Cut as CutFault, FrameList, Message, Unworkable}
+use Rattle.model.specs.declared.Fault.the-variants.{LongLog, LineForm, CheckByte, Kind, Header, Event, Clock, Formula, Size, NoQuestion, Workspace, Output, Cut as CutFault, FrameList, Message, Unworkable, TooWide, TooMany}
 use Rattle.model.specs.Reply.{Reply, gives, refuses, number, figures}
-use Rattle.model.specs.Operations.{Effect, readEffect, readOp, Opening, shut, poses, opening, cramped, forecastReplyTo, forecastOp, lineEffect, answerEffect, answerOp, holdsReplyTo, holdsOp, writeEffect, writeOp}
+use Rattle.model.specs.Operations.{Effect, refuse, write, readEffect, readOp, Opening, shut, poses, opening, cramped, forecastReplyTo, forecastOp, lineEffect, answerEffect, answerOp, holdsReplyTo, holdsOp, writeEffect, writeOp, mergedLog, tooWide, tooMany, mergeEffect, mergeOp}
 use Rattle.codec.proofs.Accepted.{accepted-log, accepted-list}
 use Rattle.codec.proofs.Suited.{suitable}
 use Rattle.codec.proofs.Sizes.{short, short-list, short-log}
 use Rattle.codec.proofs.Refusals.{log-named, list-named, opening-named}
+use Rattle.codec.proofs.MergeLog.{merge-short}
 use Rattle.codec.proofs.Demands.{opened-line-fits}
 use Rattle.codec.proofs.Forecast.{opened-low}
 use Rattle.packing.specs.Packed.{pack, packed, readWidths, writeWidths, forecastWidths, answerWidths, holdsWidths, Fits, Fair}
@@ -55,6 +56,21 @@ write-fair list out = by (readList limits list) refl
     by (accepted r) e =
         let l = short-log suitable r _ (accepted-list limits list r e .1) in
         either writeWidths (ltb (length out) (limits .bytes)) _ _ (omega arith, omega arith) (omega arith, tt)
+
+pub merge-fair : (log second out : List ℕ) → Fair writeWidths (mergeOp limits log second out .reply)
+unfolding mergeOp mergeEffect
+merge-fair log second out = by (readLog limits log) refl (readLog limits second) refl
+  where
+    low : (a b : Bool) (r s : Reading) → (a ≡ false → b ≡ false → length (mergedLog r s) ≤ limits .bytes)
+        → Fair writeWidths (cond a (refuse 17 0 out) (cond b (refuse 18 0 out) (cond (ltb (length out) (limits .bytes)) (refuse 12 0 out) (write (length (mergedLog r s) ∷ []) (mergedLog r s) out))) .reply)
+    low true b r s h = (omega arith, omega arith)
+    low false true r s h = (omega arith, omega arith)
+    low false false r s h = let l = h refl refl in either writeWidths (ltb (length out) (limits .bytes)) (refuse 12 0 out) (write (length (mergedLog r s) ∷ []) (mergedLog r s) out) (omega arith, omega arith) (omega arith, tt)
+
+    by : (x : Result) → readLog limits log ≡ x → (y : Result) → readLog limits second ≡ y → Fair writeWidths (mergeEffect limits x y out .reply)
+    by (refused k n) e y e′ = log-named limits log k n e
+    by (accepted r) e (refused k n) e′ = log-named limits second k n e′
+    by (accepted r) e (accepted s) e′ = low (tooWide limits r s) (tooMany limits r s) r s (merge-short suitable log second r s e e′)
 
 pub forecast-fair : (log : List ℕ) (q : ℕ) → Fair forecastWidths (forecastOp limits log q)
 unfolding forecastOp forecastReplyTo
@@ -120,6 +136,8 @@ few-faults CutFault = omega arith
 few-faults FrameList = omega arith
 few-faults Message = omega arith
 few-faults Unworkable = omega arith
+few-faults TooWide = omega arith
+few-faults TooMany = omega arith
 
 -- One value is its own number.
 pub one-packed : (w v : ℕ) (x : Reply) → gives (v ∷ []) ≡ x → v ≡ packed (w ∷ []) x
@@ -165,6 +183,10 @@ read-told log out log′ out′ e = same readWidths (omega arith) _ _ (read-fair
 pub write-told : (list out list′ out′ : List ℕ) → packed writeWidths (writeOp limits list out .reply) ≡ packed writeWidths (writeOp limits list′ out′ .reply) → writeOp limits list out .reply ≡ writeOp limits list′ out′ .reply
 unfolding sum
 write-told list out list′ out′ e = same writeWidths (omega arith) _ _ (write-fair list out) (write-fair list′ out′) e
+
+pub merge-told : (log second out log′ second′ out′ : List ℕ) → packed writeWidths (mergeOp limits log second out .reply) ≡ packed writeWidths (mergeOp limits log′ second′ out′ .reply) → mergeOp limits log second out .reply ≡ mergeOp limits log′ second′ out′ .reply
+unfolding sum
+merge-told log second out log′ second′ out′ e = same writeWidths (omega arith) _ _ (merge-fair log second out) (merge-fair log′ second′ out′) e
 
 pub forecast-told : (log : List ℕ) (q : ℕ) (log′ : List ℕ) (q′ : ℕ) → packed forecastWidths (forecastOp limits log q) ≡ packed forecastWidths (forecastOp limits log′ q′) → forecastOp limits log q ≡ forecastOp limits log′ q′
 unfolding sum

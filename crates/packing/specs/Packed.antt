@@ -15,7 +15,7 @@ unfoldable pub packed : List ℕ → Reply → ℕ
 packed widths (gives values) = pack widths values
 packed widths (refuses k n) = k * 2 ^ 59 + n
 
--- Read's counts of stations, events and questions and the list's length; the length of what Write or Answer wrote; Forecast's width, bars, structures held, cells and ceiling; Holds' yes or no.
+-- Read's counts of stations, events and questions and the list's length; the length of what Write, Merge or Answer wrote; Forecast's width, bars, structures held, cells and ceiling; Holds' yes or no.
 abbrev pub readWidths : List ℕ
 readWidths = 8 ∷ 8 ∷ 8 ∷ 16 ∷ []
 

@@ -45,7 +45,7 @@ pub fn packed_read(a: ReadAnswer) -> u64
     }
 }
 
-// Write's reply: the log's length, or a refusal.
+// Write's reply, and Merge's: the log's length, or a refusal.
 pub fn packed_write(a: WriteAnswer) -> u64
     requires { ⌜ Fair writeWidths (writeReply a) ⌝ }
     ensures { λ v. ⌜ v ≡ packed writeWidths (writeReply a) ⌝ }

@@ -27,6 +27,8 @@ pub fn number(fault: Fault) -> u8
         Fault::FrameList => 14,
         Fault::Message => 15,
         Fault::Unworkable => 16,
+        Fault::TooWide => 17,
+        Fault::TooMany => 18,
     }
 }
 

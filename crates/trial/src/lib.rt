@@ -17,8 +17,8 @@ pub const HEAD: usize = 10;
 pub const LENT: u8 = 165;
 
 // A case of an input. Its first ten bytes are a letter, the question number, the length of the cut, 1 if the bar space is to be one
-// cell short, and in two bytes each the cells of the workspace, the size of the output and the length of the log or list. The cut stands
-// behind them, from `cut` to `data`, and the log or list behind that, to `end`.
+// cell short, and in two bytes each the cells of the workspace, the size of the output and the length of the log, logs or list. The cut,
+// or what is said in its place, stands behind them, from `cut` to `data`, and the log, logs or list behind that, to `end`.
 pub struct Case {
     pub letter: u8,
     pub question: usize,
@@ -140,13 +140,13 @@ pub fn print_read(l: Log, out: &[u8]) {
     print_output(out, l.list);
 }
 
-// How many bytes Write wrote, and these.
+// How many bytes Write or Merge wrote, and these.
 pub fn print_written(len: usize, out: &[u8]) {
     print_number(len);
     print_output(out, len);
 }
 
-// The refusal of Read or Write.
+// The refusal of Read, Write or Merge.
 pub fn print_unwritten(r: Refusal, out: &[u8]) {
     print_refusal(r);
     print_output(out, 0);

@@ -1,4 +1,4 @@
-//! One made-up log through all five operations, here and in the proved code.
+//! One made-up log through all operations but Merge, here and in the proved code.
 use crate::basis::Worker;
 use crate::clears::Clears;
 use crate::draw::Draw;
@@ -12,6 +12,7 @@ use crate::lent::Buffers;
 use crate::listing;
 use crate::log::{Log, OPERATIONS, PROGRAM, STATIONS};
 use crate::made::{self, Shape};
+use crate::merges::Merges;
 use crate::messages;
 use crate::operations::{self as here, answer_line, costs, Costs, BARS, WORKSPACE};
 use crate::panels;
@@ -103,7 +104,7 @@ use Lends::*;
 /// What was seen: calls, accepted logs, Holds' no and yes, answers that list no, one and several cuts, workspaces refused for one cell
 /// less than forecast and accepted with just these cells, each fault, without a header of kind 11 and with one, peaks, sides of limits,
 /// ends of ranges, tokens 07 and 08, silent stations, and by their stations the accepted logs of more events than the program takes, and
-/// those with a header of kind 11; and apart from all these, what the safe layer said.
+/// those with a header of kind 11; and apart from all these, what the safe layer said, and what was met of pairs.
 pub struct Counts {
     pub calls: usize,
     pub accepted: usize,
@@ -120,6 +121,7 @@ pub struct Counts {
     pub large: [usize; STATIONS],
     pub panels: [usize; STATIONS],
     pub layer: Layer,
+    pub merges: Merges,
 }
 
 impl Counts {
@@ -129,7 +131,7 @@ impl Counts {
         let (holds, answers, limit, faults, large, panels) = ([0; 2], [0; 3], [0; 2], [[0; KINDS]; 2], [0; STATIONS], [0; STATIONS]);
         Counts {
             calls: 0, accepted: 0, holds, answers, limit, faults, peaks, sides, ranges, clears, fields, silences, large, panels,
-            layer: Layer::default(),
+            layer: Layer::default(), merges: Merges::default(),
         }
     }
 
@@ -159,7 +161,7 @@ impl Counts {
     }
 
     /// Both replies are equal, to a log or frame list that has a header of kind 11 or not.
-    fn same<T: PartialEq + Debug>(&mut self, what: &str, panels: bool, proved: &Reply<T>, here: Result<T, Refusal>) {
+    pub fn same<T: PartialEq + Debug>(&mut self, what: &str, panels: bool, proved: &Reply<T>, here: Result<T, Refusal>) {
         self.calls += 1;
         if let Err(Refusal(fault, _)) = here {
             self.faults[panels as usize][fault as usize] += 1;
@@ -169,9 +171,9 @@ impl Counts {
 }
 
 /// Values, or a refusal's number and line.
-type Reply<T> = Result<T, (u8, u32)>;
+pub type Reply<T> = Result<T, (u8, u32)>;
 
-fn told<T, V>(reply: Result<T, moment::Refusal>, values: impl FnOnce(T) -> V) -> Reply<V> {
+pub fn told<T, V>(reply: Result<T, moment::Refusal>, values: impl FnOnce(T) -> V) -> Reply<V> {
     reply.map(values).map_err(|refusal| (refusal.number, refusal.line))
 }
 
@@ -180,17 +182,17 @@ fn number(digits: &[u8]) -> usize {
 }
 
 /// How many cuts an answer line lists.
-fn cuts_listed(line: &[u8]) -> usize {
+pub fn cuts_listed(line: &[u8]) -> usize {
     number(&line[4..6])
 }
 
 /// The counts of the cuts that it lists.
-fn counts_listed(line: &[u8]) -> impl Iterator<Item = usize> + '_ {
+pub fn counts_listed(line: &[u8]) -> impl Iterator<Item = usize> + '_ {
     line[6..line.len() - 11].chunks(2).map(number)
 }
 
 /// The rounds of an answer line, the four bytes before its check byte.
-fn rounds(line: &[u8]) -> usize {
+pub fn rounds(line: &[u8]) -> usize {
     number(&line[line.len() - 11..line.len() - 3])
 }
 
@@ -346,7 +348,7 @@ impl Calls<'_> {
     }
 }
 
-/// One case through all five operations: every question, or of a large log a few, and for a small log every cut.
+/// One case through all operations on one log: every question, or of a large log a few, and for a small log every cut.
 pub fn compare(case: Case, lent: &mut Buffers, counts: &mut Counts) {
     let Case { log: data, list, mut draw } = case;
     lent.fill(&mut draw);

@@ -2,7 +2,7 @@
 use Fault::*;
 
 /// The lowest digit aside, the refusal's number. "Other" is the other kind of header than the log's: a second header of that kind, or a
-/// length that goes with it. "Panel" is a token 08.
+/// length that goes with it. "Panel" is a token 08. "Together" is what two logs are too many of.
 #[derive(Clone, Copy, Debug)]
 #[repr(u16)]
 pub enum Fault {
@@ -66,19 +66,22 @@ pub enum Fault {
     ClearUnderNot = 0x100,
     ClearUnderAlways,
     ClearJoined,
+    StationsTogether = 0x110,
+    EventsTogether = 0x120,
+    MessagesTogether,
 }
 
 /// One more than the largest.
-pub const KINDS: usize = 0x110;
+pub const KINDS: usize = 0x130;
 
-pub const ALL: [Fault; 60] = [
+pub const ALL: [Fault; 63] = [
     LogTooLong, NoEndOfLine, OddDigits, NotADigit, LineUnder2, LineOver100, CheckByte, UnknownKind, NoHeader, SecondHeader, OtherHeader,
     EventAfterQuestion, TooManyEvents, Question17, EventAfterMessage, MessageAfterQuestion, TooManyMessages, EmptyLog, HeaderLength,
     OtherHeaderLength, NoStation, StationsOver8, EventLength, OtherEventLength, EventStation, OwnEntry, EntryNotRead, ClockAbove,
     FormulaEnds, BytesAfterFormula, UnknownToken, FormulaStation, PanelEnds, PanelStation, TokensOver32, AtomsOver12, PanelsOver12,
     WidthOver16, BarsOver16, NoSuchQuestion, Workspace, BarSpace, Output, CutLength, NotConsistent, ListTooLong, LengthZero, LengthOver99,
     LengthPastEnd, MessageLength, SenderNotThere, ReceiverNotThere, SentZero, SentNotThere, ReceivedNotThere, SentToSelf, SendingNotSeen,
-    ClearUnderNot, ClearUnderAlways, ClearJoined,
+    ClearUnderNot, ClearUnderAlways, ClearJoined, StationsTogether, EventsTogether, MessagesTogether,
 ];
 
 /// Those that the kind of the header decides, and those of tokens 08.

@@ -5,8 +5,9 @@ use crate::log::{entries, Cut, Log, OPERATIONS};
 use crate::operations::{self as here, answer_line};
 use crate::tally::named;
 
-const NAMES: [&str; 8] = [
-    "logs taken apart", "logs refused", "lists written", "lists refused", "answers", "cuts with yes", "cuts with no", "cuts refused",
+const NAMES: [&str; 10] = [
+    "logs taken apart", "logs refused", "lists written", "lists refused", "pairs merged", "pairs refused", "answers", "cuts with yes",
+    "cuts with no", "cuts refused",
 ];
 
 /// How often each of these was met.
@@ -55,6 +56,14 @@ impl Layer {
         let expected = here::write(list, &mut out).map(|n| out[..n].to_vec()).map_err(|Refusal(fault, line)| refusal(fault, line));
         self.meet(if expected.is_ok() { "lists written" } else { "lists refused" });
         assert_eq!(moment::write(list), expected, "the safe layer's log");
+    }
+
+    /// Two logs, merged or refused.
+    pub fn meet_pair(&mut self, first: &[u8], second: &[u8]) {
+        let mut out = vec![0; OPERATIONS.log];
+        let merged = here::merge(first, second, &mut out).map(|n| &out[..n]).map_err(|Refusal(fault, line)| refusal(fault, line));
+        self.meet(if merged.is_ok() { "pairs merged" } else { "pairs refused" });
+        assert_eq!(moment::merge(first, second).as_deref(), merged.as_ref().copied(), "the safe layer's merged log");
     }
 
     /// An accepted question and its basis: the answer, and Holds at the start, at the cuts listed, at the greatest cut and past it.

@@ -55,7 +55,7 @@ impl Event {
 }
 
 /// The bytes of an event's value and panel by the kind of the header, and with a header of the other kind.
-fn field_bytes(panels: bool) -> [usize; 2] {
+pub fn field_bytes(panels: bool) -> [usize; 2] {
     if panels { [4, 2] } else { [2, 4] }
 }
 

@@ -8,6 +8,8 @@ use compare::forecasts;
 use compare::guard::when_touched;
 use compare::lent::Buffers;
 use compare::log::PROGRAM;
+use compare::merges;
+use compare::pairs::Pair;
 use compare::peak::WANTED;
 use compare::sides;
 use std::panic::{catch_unwind, AssertUnwindSafe};
@@ -40,8 +42,9 @@ fn asked(words: &[String]) -> Result<(u64, u64), String> {
 
 /// What was met too seldom for the run to say much: an outcome, a fault, one of panels with a header of kind 11, a refusal with such a
 /// header, an end of a range, a way that a token 07, a token 08 or silence is met or what the safe layer says less than ten times in 4,000
-/// logs, a fault of panels with a header of kind 10, a peak or a number of stations of large logs or of those with a header of kind 11 less
-/// than once, a side of a limit less often than is wanted.
+/// logs, what is met of pairs of logs less than five times, a refusal of one of them, by its side, less than three times, a fault of panels
+/// with a header of kind 10, a peak or a number of stations of large logs or of those with a header of kind 11 less than once, a side of a
+/// limit less often than is wanted.
 fn seldom(logs: u64, counts: &Counts) -> Vec<String> {
     let [no, yes] = counts.holds;
     let [none, one, several] = counts.answers;
@@ -66,9 +69,11 @@ fn seldom(logs: u64, counts: &Counts) -> Vec<String> {
     let tokens = [("07", counts.clears.figures()), ("08", counts.fields.figures()), ("08 told from", counts.fields.told())];
     let tokens = tokens.into_iter().flat_map(|(name, figures)| prefixed(name, figures));
     let layer = prefixed("safe layer's", counts.layer.figures());
+    let pairs = counts.merges.figures().into_iter().map(|(name, n)| (format!("pairs: {name}"), n, 5));
+    let pairs = pairs.chain(counts.merges.refusals().map(|(name, n)| (format!("pairs refused with {name}"), n, 3)));
     let seen = outcomes.chain(faults).chain(of_panels).chain(refusals).chain(peaks).chain(sides);
     let silences = counts.silences.figures().into_iter().flat_map(|(sort, figures)| prefixed(sort, figures));
-    let seen = seen.chain(stations).chain(ranges).chain(tokens).chain(silences).chain(layer);
+    let seen = seen.chain(stations).chain(ranges).chain(tokens).chain(silences).chain(layer).chain(pairs);
     seen.filter(|(_, n, least)| (*n as u64) < logs / 4000 * least).map(|(name, n, _)| format!("{name} {n}")).collect()
 }
 
@@ -88,13 +93,13 @@ fn joined(figures: impl IntoIterator<Item = (String, usize)>) -> String {
 }
 
 fn report(logs: u64, counts: &Counts) {
-    let Counts { calls, accepted, holds, answers, limit, faults, peaks, sides, ranges, clears, fields, silences, large, panels, layer } =
+    let Counts { calls, accepted, holds, answers, limit, faults, peaks, sides, ranges, clears, fields, silences, large, panels, layer, merges } =
         counts;
     let reached: Vec<String> = WANTED.iter().map(|(p, _)| format!("{p:?} {} ({})", peaks.of(*p).most, peaks.of(*p).times)).collect();
     println!("{logs} logs, {accepted} accepted, {calls} calls, all equal");
     println!("Holds no and yes: {holds:?}; answers with no, one, several cuts: {answers:?}");
     let [plain, with] = faults.map(|faults| refusals(&faults));
-    println!("refusals 1 to 16 without header 11: {plain:?}; with it: {with:?}");
+    println!("refusals 1 to 18 without header 11: {plain:?}; with it: {with:?}");
     println!("workspaces refused for one cell less than forecast, accepted with just these cells: {limit:?}");
     println!("peaks (and how often what is wanted): {}", reached.join(", "));
     println!("sides of limits: {}", joined(sides::WANTED.iter().map(|(s, _)| (format!("{s:?}"), sides.of(*s)))));
@@ -102,15 +107,26 @@ fn report(logs: u64, counts: &Counts) {
     ranges.figures().for_each(|(sort, figures)| println!("{sort}, tried {}", joined(figures)));
     let by_fault = |all: &[Fault], panels: usize| joined(all.iter().map(|f| (format!("{f:?}"), faults[panels][*f as usize])));
     let late: Vec<Fault> = ALL.into_iter().filter(|f| f.number() > 14).collect();
-    println!("refusals 15 and 16 without header 11: {}; with it: {}", by_fault(&late, 0), by_fault(&late, 1));
+    println!("refusals 15 to 18 without header 11: {}; with it: {}", by_fault(&late, 0), by_fault(&late, 1));
     println!("faults of panels without header 11: {}; with it: {}", by_fault(&OF_PANELS, 0), by_fault(&OF_PANELS, 1));
     println!("tokens 07: {}", joined(clears.figures()));
     println!("tokens 08: {}", joined(fields.figures()));
     println!("answers that tell the panel from {}", joined(fields.told()));
     silences.figures().into_iter().for_each(|(sort, figures)| println!("{sort}: {}", joined(figures)));
     println!("by the safe layer, all equal too: {}", joined(layer.figures()));
+    println!("pairs of logs: {}", joined(merges.figures()));
+    println!("pairs refused for one log: {}", joined(merges.refusals()));
     if logs < 4000 {
         println!("under 4000 logs: how often each was met is not judged");
+    }
+}
+
+/// Prints what a seed gives.
+fn differs(seed: u64) {
+    let Case { log, list, .. } = Case::new(seed);
+    println!("`compare 1 {seed}` differs, on the log\n{}\nand the frame list\n{list:02X?}", log.escape_ascii());
+    if let Some(Pair { first, second, .. }) = Pair::new(seed) {
+        println!("or on the logs\n{}\nand\n{}", first.escape_ascii(), second.escape_ascii());
     }
 }
 
@@ -144,9 +160,12 @@ fn main() -> ExitCode {
     when_touched(touched);
     for seed in first..first + logs {
         SEED.store(seed, Relaxed);
-        if catch_unwind(AssertUnwindSafe(|| compare(Case::new(seed), &mut lent, &mut counts))).is_err() {
-            let Case { log, list, .. } = Case::new(seed);
-            println!("`compare 1 {seed}` differs, on the log\n{}\nand the frame list\n{list:02X?}", log.escape_ascii());
+        let all_of_it = || {
+            compare(Case::new(seed), &mut lent, &mut counts);
+            Pair::new(seed).into_iter().for_each(|pair| merges::compare(pair, &mut lent, &mut counts));
+        };
+        if catch_unwind(AssertUnwindSafe(all_of_it)).is_err() {
+            differs(seed);
             return ExitCode::FAILURE;
         }
     }

@@ -124,7 +124,7 @@ fn limit(d: &mut Draw, s: Shape) -> Vec<u8> {
 }
 
 /// Header, events, messages and questions.
-fn log(d: &mut Draw, s: Shape, count: usize) -> Frames {
+pub fn log(d: &mut Draw, s: Shape, count: usize) -> Frames {
     let (apart, pairs) = (1 + d.below(3), [0; 2].map(|_| pair(d, s.stations)));
     let pairs = &pairs[..1 + d.below(2)];
     let mut fs = vec![made::header(d, s)];

@@ -2,7 +2,7 @@
 use crate::basis::Worker;
 use crate::fault::{Fault, Refusal};
 use crate::formula::{size, Token, Tokens};
-use crate::log::{entries, line, Cut, Log, OPERATIONS, PROGRAM, STATIONS};
+use crate::log::{entries, field_bytes, line, Cut, Log, OPERATIONS, PROGRAM, STATIONS};
 
 /// The most structures that a question holds, and the most cells that it takes.
 pub const HELD: usize = 36;
@@ -35,6 +35,66 @@ pub fn write(list: &[u8], out: &mut [u8]) -> Result<usize, Refusal> {
         return refused(Fault::Output);
     }
     let lines: Vec<u8> = entries(OPERATIONS, &log.list).into_iter().flatten().flat_map(line).collect();
+    Ok(put(&lines, out))
+}
+
+/// An event or a message of a log as it stands in a merged one, with so many stations before the log's own and so many behind.
+fn moved(log: &Log, f: &[u8], panels: bool, [before, behind]: [usize; 2]) -> Vec<u8> {
+    let (on, zeros) = (|station: u8| station + before as u8, [0; STATIONS]);
+    match *f {
+        [0x25, sender, sent, receiver, received] => vec![0x25, on(sender), sent, on(receiver), received],
+        _ => {
+            let (fields, clock) = f[2..].split_at(field_bytes(log.panels)[0]);
+            [&[0x20, on(f[1])], fields, no_panel(log, panels), &zeros[..before], clock, &zeros[..behind]].concat()
+        }
+    }
+}
+
+/// What stands behind a value of a log that has no panels, where the merged one has them.
+fn no_panel(log: &Log, panels: bool) -> &'static [u8] {
+    if panels && !log.panels { &[0, 0] } else { &[] }
+}
+
+/// The frames of two logs as one.
+pub fn merged(first: &Log, second: &Log) -> Vec<Vec<u8>> {
+    let (panels, n, m) = (first.panels || second.panels, first.stations(), second.stations());
+    let frames = [first, second].map(|log| entries(OPERATIONS, &log.list).expect("a list that was read"));
+    let mut header = vec![if panels { 0x11 } else { 0x10 }, (n + m) as u8];
+    for (log, fs) in [first, second].into_iter().zip(&frames) {
+        let values = fs[0][2..].chunks(field_bytes(log.panels)[0]);
+        values.for_each(|value| header.extend([value, no_panel(log, panels)].concat()));
+    }
+    let (sides, mut out) = ([(first, &frames[0], [0, m]), (second, &frames[1], [n, 0])], vec![header]);
+    for kind in [0x20, 0x25] {
+        for (log, fs, beside) in &sides {
+            out.extend(fs.iter().filter(|f| f[0] == kind).map(|f| moved(log, f, panels, *beside)));
+        }
+    }
+    out.extend(frames[0].iter().filter(|f| f[0] == 0x30).map(|f| f.to_vec()));
+    out
+}
+
+/// What two logs are too many of together.
+fn together(first: &Log, second: &Log) -> Result<(), Refusal> {
+    if first.stations() + second.stations() > STATIONS {
+        return refused(Fault::StationsTogether);
+    }
+    if first.events + second.events > OPERATIONS.events {
+        return refused(Fault::EventsTogether);
+    }
+    if first.messages.len() + second.messages.len() > OPERATIONS.messages {
+        return refused(Fault::MessagesTogether);
+    }
+    Ok(())
+}
+
+pub fn merge(data: &[u8], more: &[u8], out: &mut [u8]) -> Result<usize, Refusal> {
+    let (first, second) = (Log::read(OPERATIONS, data)?, Log::read(OPERATIONS, more)?);
+    together(&first, &second)?;
+    if out.len() < OPERATIONS.log {
+        return refused(Fault::Output);
+    }
+    let lines: Vec<u8> = merged(&first, &second).iter().flat_map(|f| line(f)).collect();
     Ok(put(&lines, out))
 }
 

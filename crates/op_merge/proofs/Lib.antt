@@ -1,0 +1,3 @@
+pub mod Sides
+pub mod Writes
+pub mod Operations

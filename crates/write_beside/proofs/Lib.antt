@@ -1,0 +1,4 @@
+pub mod Lines
+pub mod Reports
+pub mod Moves
+pub mod Walks
