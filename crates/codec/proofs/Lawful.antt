@@ -100,7 +100,7 @@ admitted-lawful {m} {r} law (a-header {p = p} {f = f} first form) = record {
   good = rw unasked (λ q φ h. none-some h);
   headed = λ h. rw (ap (λ (x : Reading). x .frames) before) refl;
   plain = λ h. opened-plain reports (plain-header p (getD f 0 0) (drop 1 f) h);
-  framed = rw unasked (framed-other (headerKind p ∷ f) (header-kind p) (rw unasked at (law .framed)));
+  framed = rw unasked (framed-other (headerKind p ∷ f) (header-kind 0x30 (omega arith) (omega arith) p) (rw unasked at (law .framed)));
   counted = λ h. omega (arith, eventCount-opened reports, ap length (messages-opened reports), length-append (r .frames) ((headerKind p ∷ f) ∷ []), ap (λ (x : Reading). length (x .frames)) before, ap length unasked);
 }
   where

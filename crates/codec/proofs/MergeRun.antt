@@ -17,6 +17,7 @@ use Rattle.model.specs.Beside.{padded, beside}
 use Rattle.model.specs.Merge.{ofKind, eventBytes, eventFrames}
 use Rattle.lattice.proofs.Tests as tests
 use Rattle.lattice.proofs.Histories.{eventCount-extended}
+use Rattle.lattice.proofs.Reports.{header-kind}
 use Rattle.lattice.proofs.Beside.{stations-beside, eventCount-beside}
 use Rattle.lattice.proofs.BesideSteps.{extended-first, extended-second, clock-ok-first, clock-ok-second}
 use Rattle.codec.proofs.Snoc.{empty-list}
@@ -49,9 +50,9 @@ pub kind-other : (k x : ℕ) → x ≢ k → (fs : List (List ℕ)) (f : List �
 unfolding ofKind
 kind-other k x d fs f = kind-append k fs ((x ∷ f) ∷ []) ∙ ap (λ (b : Bool). ofKind k fs ++ cond b (f ∷ []) []) (ne-eqb x k d) ∙ append-nil (ofKind k fs)
 
-no-events : {fs : List (List ℕ)} → fs ≡ [] → ofKind 0x20 fs ≡ []
+pub no-frames : (k : ℕ) {fs : List (List ℕ)} → fs ≡ [] → ofKind k fs ≡ []
 unfolding ofKind
-no-events e = rw e refl
+no-frames k e = rw e refl
 
 -- ONE SIDE
 
@@ -168,16 +169,11 @@ pub joins-nothing : (m : Limits) → Joins m nothing
 unfolding opened ofKind
 joins-nothing m w c C a b side room gs = joins-none w _ gs _ refl
 
-header-kind : (p : Bool) → headerKind p ≢ 0x20
-unfolding headerKind
-header-kind true e = omega arith
-header-kind false e = omega arith
-
 module _ (m : Limits) (r : Reading) (law : Lawful m r) (f : List ℕ) where
   joins-header : (p : Bool) → begun r ≡ false → Joins m (withHeader p r f)
   unfolding opened
   joins-header p first w c C a b side room gs =
-      let none : ofKind 0x20 (r .frames ++ ((headerKind p ∷ f) ∷ [])) ≡ [] = kind-other 0x20 (headerKind p) (header-kind p) (r .frames) f ∙ no-events (ap (λ (x : Reading). x .frames) (law .blank (begun-false r first))) in
+      let none : ofKind 0x20 (r .frames ++ ((headerKind p ∷ f) ∷ [])) ≡ [] = kind-other 0x20 (headerKind p) (header-kind 0x20 (omega arith) (omega arith) p) (r .frames) f ∙ no-frames 0x20 (ap (λ (x : Reading). x .frames) (law .blank (begun-false r first))) in
       joins-none w (C (opened (reportsOf p (getD f 0 0) (drop 1 f)))) gs _ (ap (map (λ g. 0x20 ∷ eventBytes p w a b g)) none)
 
   event-more : (w : Bool) (a b : ℕ) → eventFrames w a b (withEvent r f) ≡ eventFrames w a b r ++ ((0x20 ∷ eventBytes (r .panelled) w a b f) ∷ [])

@@ -16,10 +16,11 @@ use Rattle.model.specs.Merge.{ofKind}
 use Rattle.lattice.proofs.Lists.{All, all-append, all-map}
 use Rattle.lattice.proofs.Lists.All.{done, also}
 use Rattle.lattice.proofs.Histories.{stations-opened}
+use Rattle.lattice.proofs.Reports.{header-kind}
 use Rattle.codec.proofs.Snoc.{empty-list}
 use Rattle.codec.proofs.Accepted.{Admission, a-header, a-event, a-message, a-question, begun-true, begun-false, unsent-true, header-true, event-true, readItems-invariant}
 use Rattle.codec.proofs.Lawful.{Lawful, nothing-lawful, admitted-lawful}
-use Rattle.codec.proofs.MergeRun.{kind-same, kind-other, Joins, joins-nothing, joins-kept}
+use Rattle.codec.proofs.MergeRun.{kind-same, kind-other, no-frames, Joins, joins-nothing, joins-kept}
 
 -- MESSAGES
 
@@ -48,15 +49,6 @@ no-posts {r} p e = none (ofKind 0x25 (r .frames)) (sym (p .are) ∙ e)
     none : (l : List (List ℕ)) → map messageOf l ≡ [] → l ≡ []
     none [] h = refl
     none (f ∷ l) h = let z : _≡_ {A = ℕ} 0 1 = cc in absurd (omega arith)
-
-no-frames : (k : ℕ) {fs : List (List ℕ)} → fs ≡ [] → ofKind k fs ≡ []
-unfolding ofKind
-no-frames k e = rw e refl
-
-header-kind : (k : ℕ) → k ≢ 0x10 → k ≢ 0x11 → (p : Bool) → headerKind p ≢ k
-unfolding headerKind
-header-kind k h g true e = g (sym e)
-header-kind k h g false e = h (sym e)
 
 -- THE HEADER, THE EVENTS AND THE MESSAGES
 

@@ -1,5 +1,5 @@
 -- Reports one after another: as many as asked for, each at its place; and with no panel carried each panel is 0.
-use mathlib.Core.Path.{_≡_, refl, ap, _∙_}
+use mathlib.Core.Path.{_≡_, refl, sym, ap, _∙_}
 use mathlib.Core.Logic.{_≢_}
 use Prim.Native.Nat.{ℕ, zero, suc, _+_, _*_, _≤_, _<_}
 use native.Mathlib.Nat.{zero-mul, suc-mul}
@@ -25,11 +25,11 @@ pub size-plain : (p : Bool) → p ≡ false → reportSize p ≡ 2
 unfolding reportSize
 size-plain p e = rw e refl
 
--- A header is no question.
-pub header-kind : (p : Bool) → headerKind p ≢ 0x30
+-- A header is no frame of another kind.
+pub header-kind : (k : ℕ) → k ≢ 0x10 → k ≢ 0x11 → (p : Bool) → headerKind p ≢ k
 unfolding headerKind
-header-kind true e = omega arith
-header-kind false e = omega arith
+header-kind k h g true e = g (sym e)
+header-kind k h g false e = h (sym e)
 
 -- n of them have at most 4 * n, and each of them is within.
 pub reports-size : (p : Bool) (n : ℕ) → n * reportSize p ≤ 4 * n
