@@ -1,4 +1,4 @@
-/* The moment finder's operations for C99 and C++, by the static library target/staticlib/libexports.a, which `rt staticlib exports` makes.
+/* The moment finder's operations for C99 and C++, by the static library target/staticlib/libexports.a, which `tools/build.sh exports` makes.
    docs/FORMAT.md says what a log is, what its questions mean and what is refused.
 
    A slice is a pointer and its length in bytes. The pointer is valid for that many bytes, and not NULL even where they are none. What is
@@ -24,9 +24,8 @@ enum {
     MOMENT_QUESTIONS = 16,   /* the most questions of a log */
     MOMENT_LOG = 16384,      /* the most bytes of a log; what Write and Merge are lent as output, or more */
     MOMENT_LIST = 8192,      /* the most bytes of a frame list; what Read is lent as output, or more */
-    MOMENT_BARS = 8192,      /* what Answer, Holds and HoldsMany are lent as bar space, or more */
+    MOMENT_BARS = 8192,      /* what Answer and Holds are lent as bar space, or more */
     MOMENT_LINE = 273,       /* what Answer is lent as output, or more */
-    MOMENT_ROW = 64,         /* the most cuts in a row */
     MOMENT_CELLS = 110160    /* no forecast has more cells: a workspace of so many bytes is enough for every question */
 };
 
@@ -55,15 +54,9 @@ uint64_t moment_answer(const uint8_t *log, size_t log_len, size_t question, uint
 uint64_t moment_holds(const uint8_t *log, size_t log_len, size_t question, const uint8_t *cut, size_t cut_len,
                       uint8_t *ws, size_t ws_len, uint8_t *bs, size_t bs_len);
 
-/* HoldsMany: the rounds of a question, those of an answer; for each cut of a row of 1 to 64, a byte for each station each, 1 or 0, for
-   whether the question is true there, goes to the output, which has as many bytes as there are cuts or more. One cut that is not
-   consistent has all refused. The workspace has the cells forecast or more. */
-uint64_t moment_holds_many(const uint8_t *log, size_t log_len, size_t question, const uint8_t *cuts, size_t cuts_len,
-                           uint8_t *ws, size_t ws_len, uint8_t *bs, size_t bs_len, uint8_t *out, size_t out_len);
-
 /* A REPLY, v, of any of them */
 
-/* A refusal's number, 1 to 19; 0 where nothing is refused. */
+/* A refusal's number, 1 to 18; 0 where nothing is refused. */
 static inline unsigned moment_number(uint64_t v) { return (unsigned)(v >> 59); }
 
 /* Whether it is a refusal. */
@@ -100,7 +93,7 @@ struct moment_forecast_figures {
     size_t width;    /* no answer lists more moments */
     size_t bars;     /* the largest bar count at any token */
     size_t held;     /* the most structures held at a time */
-    size_t cells;    /* the bytes of workspace that these take: with one less, Answer, Holds and HoldsMany refuse */
+    size_t cells;    /* the bytes of workspace that these take: with one less, Answer and Holds refuse */
     size_t ceiling;  /* the rounds are never above it */
 };
 
@@ -120,9 +113,6 @@ static inline size_t moment_length(uint64_t v) { return moment_bits(v, 0, 16); }
 
 /* Of Holds: whether the question is true at the cut. No is false or neither. */
 static inline int moment_yes(uint64_t v) { return moment_bits(v, 0, 1) == 1; }
-
-/* Of HoldsMany: the rounds. */
-static inline uint32_t moment_rounds(uint64_t v) { return (uint32_t)moment_bits(v, 0, 32); }
 
 /* AN ANSWER LINE, as Answer wrote it for a log of so many stations */
 

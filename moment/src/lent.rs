@@ -7,7 +7,7 @@ use crate::{Forecast, Read, Refusal};
 /// What to do where the library was not there to be linked; else none. Programs look here first: without the library a call ends the
 /// program, with this text and exit code 2.
 pub const MISSING: Option<&str> =
-    if cfg!(linked) { None } else { Some("target/staticlib/libexports.a is not there: run `rt staticlib exports`") };
+    if cfg!(linked) { None } else { Some("target/staticlib/libexports.a is not there: run `tools/build.sh exports`") };
 
 /// The library's calls. Without the library each ends the program.
 macro_rules! library {
@@ -40,10 +40,6 @@ library! {
     fn moment_holds(
         log: *const u8, log_len: usize, question: usize, cut: *const u8, cut_len: usize,
         ws: *mut u8, ws_len: usize, bs: *mut u8, bs_len: usize
-    ) -> u64;
-    fn moment_holds_many(
-        log: *const u8, log_len: usize, question: usize, cuts: *const u8, cuts_len: usize,
-        ws: *mut u8, ws_len: usize, bs: *mut u8, bs_len: usize, out: *mut u8, out_len: usize
     ) -> u64;
 }
 
@@ -106,14 +102,4 @@ pub fn holds(log: &[u8], question: usize, cut: &[u8], workspace: &mut [u8], bars
         1 => Ok(true),
         _ => Err(Refusal::UNPROVED),
     }
-}
-
-/// HoldsMany: is the question true at each cut of a row, of which each has a byte for each station? A byte a cut, 1 for yes and 0 for no,
-/// goes to the output, which has as many bytes as there are cuts or more; the rounds, which are those of an answer. Workspace and bar
-/// space as in [`answer`].
-pub fn holds_many(log: &[u8], question: usize, row: &[u8], workspace: &mut [u8], bars: &mut [u8], out: &mut [u8]) -> Result<u32, Refusal> {
-    let [(ws, ws_len), (bs, bs_len), (to, to_len)] = [workspace, bars, out].map(|s| (s.as_mut_ptr(), s.len()));
-    // SAFETY: as in `answer`.
-    let reply = unsafe { moment_holds_many(log.as_ptr(), log.len(), question, row.as_ptr(), row.len(), ws, ws_len, bs, bs_len, to, to_len) };
-    u32::try_from(unpacked(reply)?).map_err(|_| Refusal::UNPROVED)
 }

@@ -41,8 +41,6 @@ pub const LIST: usize = 8192;
 pub const BARS: usize = 8192;
 /// The bytes of an answer line's output, which is fixed.
 pub const LINE: usize = 273;
-/// The most cuts in a row.
-pub const ROW: usize = 64;
 /// No forecast has more cells: an accepted question holds at most 54 structures.
 pub const CELLS: usize = 54 * STATIONS * (EVENTS + 1);
 
@@ -68,7 +66,7 @@ pub struct Forecast {
     pub bars: usize,
     /// The most structures held at a time.
     pub held: usize,
-    /// The bytes of workspace that these take: with one less, Answer, Holds and HoldsMany refuse.
+    /// The bytes of workspace that these take: with one less, Answer and Holds refuse.
     pub cells: usize,
     /// The rounds are never above it.
     pub ceiling: usize,
@@ -85,15 +83,6 @@ pub struct Answer {
     pub rounds: u32,
     /// The proved code's line, without 0A at its end.
     pub line: String,
-}
-
-/// What HoldsMany hands back.
-#[derive(Clone, Debug, PartialEq, Eq)]
-pub struct Tested {
-    /// For each cut, in their order, whether the question is true there. No is false or neither.
-    pub yes: Vec<bool>,
-    /// The rounds of work that it took: those of an answer to the question.
-    pub rounds: u32,
 }
 
 /// Read's counts.
@@ -173,31 +162,6 @@ pub fn answer(log: &[u8], question: usize) -> Result<Answer, Refusal> {
 pub fn holds(log: &[u8], question: usize, cut: &[u8]) -> Result<bool, Refusal> {
     let mut workspace = vec![0; forecast(log, question)?.cells];
     lent::holds(log, question, cut, &mut workspace, &mut [0; BARS])
-}
-
-/// Whether a question, numbered from 0, is true at each of 1 to [`ROW`] cuts, as [`holds`] tells of one. All are tested by one basis, so
-/// that many cost little more than one. One that is not consistent has all refused, with 13; cuts of another length than a byte for each
-/// station are refused with 19, if not with 13.
-///
-/// ```
-/// let log = b"100200000000EE\n200000050100DA\n200100010001DD\n200100020102DA\n3003010000050005010100010001BE\n";
-/// let tested = moment::holds_many(log, 0, &[[1, 0], [1, 1], [1, 2]])?;
-/// assert_eq!(tested.yes, [false, true, false]);
-/// assert_eq!(tested.rounds, moment::answer(log, 0)?.rounds);
-/// assert_eq!(moment::holds_many(log, 0, &[[1, 1], [0, 2]]), Err(moment::Refusal { number: 13, line: 0 }));
-/// # Ok::<(), moment::Refusal>(())
-/// ```
-pub fn holds_many<C: AsRef<[u8]>>(log: &[u8], question: usize, cuts: &[C]) -> Result<Tested, Refusal> {
-    let mut workspace = vec![0; forecast(log, question)?.cells];
-    let row: Vec<u8> = cuts.iter().flat_map(AsRef::as_ref).copied().collect();
-    // What is no reply tells how many cuts the row was taken for.
-    let mut out = [u8::MAX; ROW];
-    let rounds = lent::holds_many(log, question, &row, &mut workspace, &mut [0; BARS], &mut out)?;
-    let yes: Vec<bool> = out.iter().take_while(|b| **b <= 1).map(|b| *b == 1).collect();
-    if cuts.iter().any(|c| c.as_ref().len() * yes.len() != row.len()) {
-        return Err(Refusal { number: 19, line: 0 });
-    }
-    Ok(Tested { yes, rounds })
 }
 
 /// The byte of two hexadecimal digits.

@@ -1,6 +1,6 @@
 //! A refusal, by name.
 
-/// Its number, 1 to 19, and the line of the log that is at fault, from 1, or 0 where no one line is. Of a frame list the line is the
+/// Its number, 1 to 18, and the line of the log that is at fault, from 1, or 0 where no one line is. Of a frame list the line is the
 /// ordinal of the frame at fault; of two logs it is a line of the one refused, which is not told.
 #[derive(Clone, Copy, Debug, PartialEq, Eq, Hash)]
 pub struct Refusal {
@@ -17,7 +17,7 @@ impl Refusal {
     /// What is at fault.
     pub fn name(&self) -> &'static str {
         match self.number {
-            0 => "the library is not the proved one, which never replies like this: run `rt staticlib exports`",
+            0 => "the library is not the proved one, which never replies like this: run `tools/build.sh exports`",
             1 => "the log is too long",
             2 => "the line's form",
             3 => "the line's check byte",
@@ -36,7 +36,6 @@ impl Refusal {
             16 => "the question asks for moments at which something is on the way",
             17 => "the two logs have more than 8 stations together",
             18 => "the two logs have more than 254 events or 64 messages together",
-            19 => "the row is not of 1 to 64 cuts with a byte for each station each",
             _ => "a fault of no known number",
         }
     }

@@ -33,7 +33,7 @@ use Rattle.model.specs.Beside.{beside}
 use Rattle.model.specs.Merge.{of_kind, report_bytes, reports_bytes, event_bytes, message_bytes, merged_frames}
 use Rattle.model.specs.Reply.{Reply, gives, refuses}
 use Rattle.model.specs.Promise.{Asked}
-use Rattle.model.specs.Operations.{Effect, refuse, write, read_effect, read_op, posing, opening_of, opening, cramped, forecast_reply_to, forecast_op, line_effect, answer_effect, answer_op, holds_reply_to, holds_op, cut_at, row_form, replies_to, row_effect, holds_many_effect, holds_many_op, write_effect, write_op, too_wide_together, too_many_together, merge_effect, merge_op, answer_lines, printed_of, printed}
+use Rattle.model.specs.Operations.{write, read_effect, read_op, posing, opening_of, opening, cramped, forecast_reply_to, forecast_op, line_effect, answer_effect, answer_op, holds_reply_to, holds_op, write_effect, write_op, too_wide_together, too_many_together, merge_effect, merge_op, answer_lines, printed_of, printed}
 
 -- The bytes of a text.
 pub ascii : String → List ℕ
@@ -146,7 +146,7 @@ interleaved = record {
 
 -- All that is computed with: to unfold this is to unfold what its line names.
 unfoldable pub definitions : Unit {0}
-unfolding ascii range panel bench Q asking panelled asking_panels silenced asking_silenced asking_panel_ffff event benched bench_frames holds_at two_ways three_ways after-events after-messages message sending none_between interleaved sum between every push lines_of digit byte bytes carried items own well_formed hex_digit hex check_byte line word log_of list_of before entry split frames_in frames_of range_token atom_bytes operands range_of atom_of sound_atom seen within test is_inside is_outside sent_by on_way no_message atom_is_true atom_is_false askable next up_to raise_to passes raise_atom prefix ahead one two sign token spelt formulas_in single formula_of sound weigh inside inside_any join clock report known is_consistent counted clock_ok message_ok as_true as_false workable width bars held slim narrow fits row joined raise_by raise reaches in_set belongs belongs_any join_row join_rows greatest keep build_on build then_right round onward after run start intersect each pairs below lowered barred basis rounds_of_pair rounds_of_pairs rounds not_inside add tops precedes insert sort true_at answer in_row four_bytes answer_line refusal_line begun check report_size report_of reports_of header_kind header_form opened admit_header event_form extended unasked unsent admit_event informed admit_message asked admit_question admit finish proceed read_items read_log read_frames read_list read_effect read_op posing opening_of opening cramped forecast_reply_to forecast_op line_effect answer_effect answer_op holds_reply_to holds_op cut_at row_form replies_to row_effect holds_many_effect holds_many_op write_effect write_op of_kind report_bytes reports_bytes event_bytes message_bytes merged_frames too_wide_together too_many_together merge_effect merge_op answer_lines printed_of printed most_bars ceiling forecast
+unfolding ascii range panel bench Q asking panelled asking_panels silenced asking_silenced asking_panel_ffff event benched bench_frames holds_at two_ways three_ways after-events after-messages message sending none_between interleaved sum between every push lines_of digit byte bytes carried items own well_formed hex_digit hex check_byte line word log_of list_of before entry split frames_in frames_of range_token atom_bytes operands range_of atom_of sound_atom seen within test is_inside is_outside sent_by on_way no_message atom_is_true atom_is_false askable next up_to raise_to passes raise_atom prefix ahead one two sign token spelt formulas_in single formula_of sound weigh inside inside_any join clock report known is_consistent counted clock_ok message_ok as_true as_false workable width bars held slim narrow fits row joined raise_by raise reaches in_set belongs belongs_any join_row join_rows greatest keep build_on build then_right round onward after run start intersect each pairs below lowered barred basis rounds_of_pair rounds_of_pairs rounds not_inside add tops precedes insert sort true_at answer in_row four_bytes answer_line refusal_line begun check report_size report_of reports_of header_kind header_form opened admit_header event_form extended unasked unsent admit_event informed admit_message asked admit_question admit finish proceed read_items read_log read_frames read_list read_effect read_op posing opening_of opening cramped forecast_reply_to forecast_op line_effect answer_effect answer_op holds_reply_to holds_op write_effect write_op of_kind report_bytes reports_bytes event_bytes message_bytes merged_frames too_wide_together too_many_together merge_effect merge_op answer_lines printed_of printed most_bars ceiling forecast
 definitions = tt
 
 -- The twelve cases marked *.
@@ -321,32 +321,6 @@ pub silent :
     × (printed (asking_panel_ffff (or (range 0 0xFFFF 0xFFFF) (not (range 0 0xFFFF 0xFFFF)))) ≡ ascii "40000000000000C0\n")
 unfolding definitions
 silent = (refl, refl, refl, refl, refl, refl, refl, refl, refl, refl, refl, refl, refl)
-
--- A row of cuts of the bench log with Q, lent so many cells of the workspace, and so many bytes of output, each 7.
-pub row_of : List ℕ → ℕ → ℕ → Effect
-row_of row ws k = holds_many_op limits (asking Q) 0 row ws barspace_size (replicate k 7)
-
--- The replies in their order, with the rounds of the lone Answer; rows of one cut and of 64. What is refused, first to last, with the next fault beside it: the log, with 15 and 16 among its own; 10 for a question that is not there; 19 for no cut, for a byte more, for 65; 13 for one cut of two, which leaves the output as lent; 11 for a cell less, or less bar space; 12 for a byte less than cuts.
-pub rows :
-    (row_of (1 ∷ 1 ∷ 1 ∷ 0 ∷ 1 ∷ 2 ∷ []) 24 4 ≡ write (7 ∷ []) (1 ∷ 0 ∷ 0 ∷ []) (replicate 4 7))
-    × (row_of (1 ∷ 0 ∷ 1 ∷ 1 ∷ []) 24 2 ≡ write (7 ∷ []) (0 ∷ 1 ∷ []) (replicate 2 7))
-    × (row_of (1 ∷ 1 ∷ []) 24 1 ≡ write (7 ∷ []) (1 ∷ []) (replicate 1 7))
-    × (row_of (replicate 128 0) 24 64 ≡ write (7 ∷ []) (replicate 64 0) (replicate 64 7))
-    × ((holds_many_op limits [] 1 [] 0 0 []).reply ≡ refuses 4 1)
-    × ((holds_many_op limits (sending (message 1) Q) 1 [] 0 0 []).reply ≡ refuses 15 5)
-    × ((holds_many_op limits (sending (message 2) (not (none_between 0 1))) 1 [] 0 0 []).reply ≡ refuses 16 6)
-    × ((holds_many_op limits (asking Q) 1 [] 0 0 []).reply ≡ refuses 10 0)
-    × (row_of [] 24 64 ≡ refuse 19 0 (replicate 64 7))
-    × (row_of (0 ∷ 2 ∷ 0 ∷ []) 0 0 ≡ refuse 19 0 [])
-    × (row_of (0 ∷ []) 24 1 ≡ refuse 19 0 (replicate 1 7))
-    × (row_of (replicate 130 0) 24 65 ≡ refuse 19 0 (replicate 65 7))
-    × (row_of (1 ∷ 1 ∷ 0 ∷ 2 ∷ []) 24 2 ≡ refuse 13 0 (replicate 2 7))
-    × (row_of (0 ∷ 2 ∷ 1 ∷ 1 ∷ []) 23 1 ≡ refuse 13 0 (replicate 1 7))
-    × (row_of (1 ∷ 1 ∷ 1 ∷ 0 ∷ []) 23 1 ≡ refuse 11 0 (replicate 1 7))
-    × ((holds_many_op limits (asking Q) 0 (1 ∷ 1 ∷ []) 24 8191 []).reply ≡ refuses 11 0)
-    × (row_of (1 ∷ 1 ∷ 1 ∷ 0 ∷ []) 24 1 ≡ refuse 12 0 (replicate 1 7))
-unfolding definitions row_of
-rows = (refl, refl, refl, refl, refl, refl, refl, refl, refl, refl, refl, refl, refl, refl, refl, refl, refl)
 
 -- Two logs as one: the bench log with a message and Q, and the one with panels, a message that never came and a question: what is written, what is read of it, and the answer, with all of the second's events behind the first's cut. The same the other way round. The refusals of the first, of the second, of both; 17 before 18; 18 for events, and for messages; 12.
 pub first-log : List ℕ

@@ -17,10 +17,6 @@ barspace_size = 8192
 abbrev pub line_size : ℕ
 line_size = 273
 
--- The most cuts in a row.
-abbrev pub most_cuts : ℕ
-most_cuts = 64
-
 -- LENT BY THE OPERATIONS TO WHAT THEY CALL
 
 -- The structures that are held at a time for a question: never more.

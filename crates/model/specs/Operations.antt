@@ -1,10 +1,9 @@
--- The seven operations and the program: what each hands back and leaves in what is lent to it.
-use Rattle.std.specs.Prelude.{◌≡◌, ℕ, zero, suc, ◌+◌, ◌*◌, ◌/◌, ◌%◌, Bool, cond, ◌&&◌, ◌||◌, List, [], ◌∷◌, ◌++◌, length, take, drop, ltb, eqb}
+-- The six operations and the program: what each hands back and leaves in what is lent to it.
+use Rattle.std.specs.Prelude.{◌≡◌, ℕ, suc, ◌+◌, Bool, cond, ◌||◌, List, [], ◌∷◌, ◌++◌, length, drop, ltb}
 use Rattle.std.proofs.Math.Option.{Option, none, some}
 use Rattle.std.proofs.Math.ListN.{get_elem?}
 use Rattle.model.specs.declared.Limits.{Limits}
-use Rattle.model.specs.Limits.{print_limits, barspace_size, line_size, most_cuts}
-use Rattle.model.specs.Lists.{between, every}
+use Rattle.model.specs.Limits.{print_limits, barspace_size, line_size}
 use Rattle.model.specs.Frames.{log_of, list_of}
 use Rattle.model.specs.Formula.{Formula}
 use Rattle.model.specs.Cut.{Cut}
@@ -102,38 +101,6 @@ holds_reply_to (poses K f) c ws bs = cond (is_consistent K c) (cond (cramped K f
 -- limits, log, question number, cut, sizes of workspace and bar space
 unfoldable pub holds_op : Limits → List ℕ → ℕ → Cut → ℕ → ℕ → Reply
 holds_op m log q c ws bs = holds_reply_to (opening m log q) c ws bs
-
--- HOLDS MANY
-
--- Cut i of a row of cuts, of n bytes each.
-unfoldable pub cut_at : ℕ → List ℕ → ℕ → Cut
-cut_at n row i = take n (drop (i * n) row)
-
--- A whole number of cuts: not none, and not too many.
-unfoldable pub row_form : ℕ → List ℕ → Bool
-row_form n row = eqb (length row % n) 0 && between 1 most_cuts (length row / n)
-
--- The replies to the first k cuts of a row, one byte each.
-unfoldable pub replies_to : Computation → Formula → List ℕ → ℕ → List ℕ
-replies_to K f row zero = []
-replies_to K f row (suc k) = replies_to K f row k ++ (yes_no (true_at K f (cut_at (stations K) row k)) ∷ [])
-
--- A row of k cuts: the rounds of a lone Answer are given, and the replies written.
-unfoldable pub row_effect : Computation → Formula → List ℕ → ℕ → ℕ → ℕ → List ℕ → Effect
-row_effect K f row k ws bs out =
-    cond (every k (λ i. is_consistent K (cut_at (stations K) row i)))
-    (cond (cramped K f ws bs) (refuse 11 0 out)
-    (cond (ltb (length out) k) (refuse 12 0 out)
-    (write ((answer K f).rounds ∷ []) (replies_to K f row k) out)))
-    (refuse 13 0 out)
-
-unfoldable pub holds_many_effect : Opening → List ℕ → ℕ → ℕ → List ℕ → Effect
-holds_many_effect (shut k n) row ws bs out = refuse k n out
-holds_many_effect (poses K f) row ws bs out = cond (row_form (stations K) row) (row_effect K f row (length row / stations K) ws bs out) (refuse 19 0 out)
-
--- limits, log, question number, cuts in a row, sizes of workspace and bar space, output
-unfoldable pub holds_many_op : Limits → List ℕ → ℕ → List ℕ → ℕ → ℕ → List ℕ → Effect
-holds_many_op m log q row ws bs out = holds_many_effect (opening m log q) row ws bs out
 
 -- WRITE
 

@@ -1,9 +1,9 @@
 -- What is promised of the operations and of the program: demands 2 and 3, by truth at cuts, and what a forecast is good for.
-use Rattle.std.specs.Prelude.{◌≡◌, ◌↔◌, ◌⊎◌, ℕ, suc, ◌+◌, ◌*◌, ◌^◌, ◌≤◌, ◌<◌, Bool, true, List, [], ◌∷◌, ◌++◌, map, length, take, drop, get_or}
+use Rattle.std.specs.Prelude.{◌≡◌, ◌↔◌, ◌⊎◌, ℕ, suc, ◌+◌, ◌*◌, ◌^◌, ◌≤◌, ◌<◌, Bool, true, List, [], ◌∷◌, ◌++◌, map, length, take, drop}
 use Rattle.std.proofs.Math.Option.{some}
 use Rattle.std.proofs.Math.ListN.{get_elem?}
 use Rattle.model.specs.declared.Limits.{Limits}
-use Rattle.model.specs.Limits.{limits, print_limits, barspace_size, line_size, most_cuts}
+use Rattle.model.specs.Limits.{limits, print_limits, barspace_size, line_size}
 use Rattle.model.specs.Lists.{Some, Member}
 use Rattle.model.specs.Formula.{Formula, signs}
 use Rattle.model.specs.Cut.{Cut, ◌!◌, ◌⊑◌, empty}
@@ -17,7 +17,7 @@ use Rattle.model.specs.Reading.{Reading, accepted, read_log, read_list}
 use Rattle.model.specs.Beside.{beside}
 use Rattle.model.specs.Merge.{carries, merged_frames}
 use Rattle.model.specs.Reply.{Reply, gives, refuses, figures}
-use Rattle.model.specs.Operations.{write, read_op, forecast_op, answer_op, holds_op, cut_at, holds_many_op, write_op, answer_lines, printed}
+use Rattle.model.specs.Operations.{write, read_op, forecast_op, answer_op, holds_op, write_op, answer_lines, printed}
 
 -- The log is accepted under the limits m, K is its computation, and f its question number q.
 pub record Asked (m : Limits) (log : List ℕ) (q : ℕ) (K : Computation) (f : Formula) : Type 0 where
@@ -75,35 +75,6 @@ pub record Tested (K : Computation) (f : Formula) (c : Cut) (reply : Reply) : Ty
   pub when_true : (reply ≡ gives (1 ∷ [])) ↔ True K f c
   pub when_not_true : (reply ≡ gives (0 ∷ [])) ↔ (True K f c → ⊥)
 
--- A row of k consistent cuts, at least one and not too many.
-pub record RowOf (K : Computation) (row : List ℕ) (k : ℕ) : Type 0 where
-  pub whole : length row ≡ k * stations K
-  pub some : 1 ≤ k
-  pub few : k ≤ most_cuts
-  pub consistent : (i : ℕ) → i < k → Consistent K (cut_at (stations K) row i)
-
--- DEMAND 2, of a row of k cuts: of the rounds handed back and of the output
-pub record TestedRow (m : Limits) (log : List ℕ) (q : ℕ) (K : Computation) (f : Formula) (row : List ℕ) (k rounds : ℕ) (output : List ℕ) : Type 0 where
-  -- byte i is 01 exactly when the question is true at cut i, and 00 exactly when it is not
-  pub tests : (i : ℕ) → i < k → Tested K f (cut_at (stations K) row i) (gives (get_or output i 0 ∷ []))
-  -- it is what Holds replies to that cut, lent the sizes that it asks for
-  pub as_holds : (i : ℕ) → i < k → (workspace barspace : ℕ) → (forecast K f).cells ≤ workspace → barspace_size ≤ barspace
-      → holds_op m log q (cut_at (stations K) row i) workspace barspace ≡ gives (get_or output i 0 ∷ [])
-  -- the rounds are those in the line that Answer writes for the question, lent the sizes that it asks for
-  pub as_answer : (workspace barspace : ℕ) (buffer : List ℕ) → (forecast K f).cells ≤ workspace → barspace_size ≤ barspace → line_size ≤ length buffer
-      → (line : List ℕ) × (a : Answered K f line) × (a.rounds ≡ rounds) × (answer_op m log q workspace barspace buffer ≡ write (length line ∷ []) line buffer)
-  -- and those in every line of which demand 3 holds
-  pub as_told : (line : List ℕ) (a : Answered K f line) → a.rounds ≡ rounds
-
--- Of what HoldsMany hands back and its output, lent a workspace, a bar space and an output of these sizes
-pub record TestsRow (m : Limits) (log : List ℕ) (q : ℕ) (row : List ℕ) (workspace barspace size : ℕ) (reply : Reply) (output : List ℕ) : Type 0 where
-  -- where it hands back rounds the log is accepted, the question is one of its own, the row is one of consistent cuts, and the above holds
-  pub when_given : (rounds : ℕ) → reply ≡ gives (rounds ∷ [])
-      → (K : Computation) × (f : Formula) × (k : ℕ) × Asked m log q K f × RowOf K row k × TestedRow m log q K f row k rounds output
-  -- and it does so for every such log, question and row, lent the sizes that it asks for
-  pub when_asked : (K : Computation) (f : Formula) (k : ℕ) → Asked m log q K f → RowOf K row k → (forecast K f).cells ≤ workspace → barspace_size ≤ barspace → k ≤ size
-      → (rounds : ℕ) × (reply ≡ gives (rounds ∷ []))
-
 -- FORECAST, of the reply for the question f
 pub record Foretold (m : Limits) (log : List ℕ) (q : ℕ) (K : Computation) (f : Formula) (reply : Reply) : Type 0 where
   -- the reply has the figures of the forecast
@@ -113,13 +84,11 @@ pub record Foretold (m : Limits) (log : List ℕ) (q : ℕ) (K : Computation) (f
       → (line : List ℕ) × Answered K f line × (answer_op m log q workspace barspace output ≡ write (length line ∷ []) line output)
   -- and demand 2 holds of the reply of Holds
   pub tests : (workspace barspace : ℕ) (c : Cut) → (forecast K f).cells ≤ workspace → barspace_size ≤ barspace → Consistent K c → Tested K f c (holds_op m log q c workspace barspace)
-  -- 11 means fewer cells than that, or too little bar space: of Answer, of Holds at a consistent cut, and of HoldsMany for a row of these
+  -- 11 means fewer cells than that, or too little bar space: of Answer, and of Holds at a consistent cut
   pub turned : (workspace barspace : ℕ) (output : List ℕ)
       → ((answer_op m log q workspace barspace output).reply ≡ refuses 11 0) ↔ ((workspace < (forecast K f).cells) ⊎ (barspace < barspace_size))
   pub turned_cut : (workspace barspace : ℕ) (c : Cut) → Consistent K c
       → (holds_op m log q c workspace barspace ≡ refuses 11 0) ↔ ((workspace < (forecast K f).cells) ⊎ (barspace < barspace_size))
-  pub turned_row : (workspace barspace : ℕ) (row output : List ℕ) (k : ℕ) → RowOf K row k
-      → ((holds_many_op m log q row workspace barspace output).reply ≡ refuses 11 0) ↔ ((workspace < (forecast K f).cells) ⊎ (barspace < barspace_size))
 
 -- DEMAND 2, of what Read hands back (counts of stations, events and questions, the list's length) and its output: writing the frame list gives the log again
 abbrev pub Rewritten : Limits → List ℕ → Reply → List ℕ → Type 0
@@ -169,11 +138,10 @@ pub record Stays (m m' : Limits) (log : List ℕ) (r : Reading) : Type 0 where
   pub accepts : read_log m' log ≡ accepted r
   -- Read, lent what m' asks for, hands back the same and writes the same list
   pub lists : (output : List ℕ) → m'.list ≤ length output → read_op m' log output ≡ read_op m log output
-  -- Forecast, Answer, Holds and HoldsMany reply the same and write the same bytes
+  -- Forecast, Answer and Holds reply the same and write the same bytes
   pub forecasts : (q : ℕ) → forecast_op m' log q ≡ forecast_op m log q
   pub answers : (q workspace barspace : ℕ) (output : List ℕ) → answer_op m' log q workspace barspace output ≡ answer_op m log q workspace barspace output
   pub tests : (q : ℕ) (c : Cut) (workspace barspace : ℕ) → holds_op m' log q c workspace barspace ≡ holds_op m log q c workspace barspace
-  pub rows : (q : ℕ) (row : List ℕ) (workspace barspace : ℕ) (output : List ℕ) → holds_many_op m' log q row workspace barspace output ≡ holds_many_op m log q row workspace barspace output
   -- Write, lent what m' asks for, writes the same log of every list of which the same is read
   pub writes : (list output : List ℕ) → read_list m list ≡ accepted r → m'.bytes ≤ length output → write_op m' list output ≡ write_op m list output
 

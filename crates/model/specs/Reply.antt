@@ -1,7 +1,7 @@
 -- What the operations hand back, in document 01's numbers: for every case of each answer its number and values.
 use Rattle.std.specs.Prelude.{ℕ, List, [], ◌∷◌}
 use Rattle.model.specs.declared.Fault.{Fault}
-use Rattle.model.specs.declared.Fault.TheVariants.{LongLog, LineForm, CheckByte, Kind, Header, Event, Clock, Formula, Size, NoQuestion, Workspace, Output, Cut, FrameList, Message, Unworkable, TooWide, TooMany, Row}
+use Rattle.model.specs.declared.Fault.TheVariants.{LongLog, LineForm, CheckByte, Kind, Header, Event, Clock, Formula, Size, NoQuestion, Workspace, Output, Cut, FrameList, Message, Unworkable, TooWide, TooMany}
 use Rattle.model.specs.declared.Refusal.{Refusal}
 use Rattle.model.specs.declared.ReadAnswer.{ReadAnswer}
 use Rattle.model.specs.declared.WriteAnswer.{WriteAnswer}
@@ -9,13 +9,11 @@ use Rattle.model.specs.declared.Forecast.{Forecast}
 use Rattle.model.specs.declared.ForecastAnswer.{ForecastAnswer}
 use Rattle.model.specs.declared.LineAnswer.{LineAnswer}
 use Rattle.model.specs.declared.HoldsAnswer.{HoldsAnswer}
-use Rattle.model.specs.declared.RowAnswer.{RowAnswer}
 use Rattle.model.specs.declared.ReadAnswer.TheVariants as read
 use Rattle.model.specs.declared.WriteAnswer.TheVariants as write
 use Rattle.model.specs.declared.ForecastAnswer.TheVariants as forecast
 use Rattle.model.specs.declared.LineAnswer.TheVariants as answer
 use Rattle.model.specs.declared.HoldsAnswer.TheVariants as holds
-use Rattle.model.specs.declared.RowAnswer.TheVariants as row
 
 -- The values given, or the refusal's number and line.
 pub data Reply : Type 0 where
@@ -41,7 +39,6 @@ number Message = 15
 number Unworkable = 16
 number TooWide = 17
 number TooMany = 18
-number Row = 19
 
 abbrev pub refusal : Refusal → Reply
 refusal r = refuses (number r.fault) r.line
@@ -74,8 +71,3 @@ abbrev pub holds_reply : HoldsAnswer → Reply
 holds_reply holds.Yes = gives (1 ∷ [])
 holds_reply holds.No = gives (0 ∷ [])
 holds_reply (holds.Refused r) = refusal r
-
--- HoldsMany: the rounds.
-abbrev pub row_reply : RowAnswer → Reply
-row_reply (row.Tested k) = gives (k ∷ [])
-row_reply (row.Refused r) = refusal r

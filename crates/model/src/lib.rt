@@ -1,10 +1,12 @@
 // A log's limits, and the answers that the operations hand back.
+#![tactic(auto)]
+
 ghost use Rattle.std.specs.Prelude.{◌≡◌};
 ghost use Rattle.model.specs.Limits.{limits};
 ghost use Rattle.model.specs.Cut.{empty};
 
 // The limits of a log, as one value.
-#[derive(Drop)]
+#[derive(Clone, Copy)]
 pub struct Limits {
     pub stations: usize,
     pub events: usize,
@@ -15,7 +17,7 @@ pub struct Limits {
 }
 
 // An accepted log: its counts, and the length of its frame list.
-#[derive(Drop)]
+#[derive(Clone, Copy)]
 pub struct Log {
     pub stations: usize,
     pub events: usize,
@@ -47,9 +49,6 @@ impl Log {
     pub const BARSPACE: usize = 8192;
 
     pub const LINE: usize = 273;
-
-    // The most cuts in a row.
-    pub const ROW: usize = 64;
 
     // The structures that are held at a time for a question: never more. The program's workspace, in which any question of a log within
     // its limits can be worked out.
@@ -100,14 +99,14 @@ impl Log {
 }
 
 // What a range looks at: 01 at a station's value, 08 at its panel.
-#[derive(Drop)]
+#[derive(Clone, Copy)]
 pub enum Aspect {
     Value,
     Panel,
 }
 
 // What the test of one value by a range says.
-#[derive(Drop)]
+#[derive(Clone, Copy)]
 pub enum Finding {
     Inside,
     Outside,
@@ -115,7 +114,7 @@ pub enum Finding {
 }
 
 // What can be wrong.
-#[derive(Drop)]
+#[derive(Clone, Copy)]
 pub enum Fault {
     LongLog,
     LineForm,
@@ -135,11 +134,10 @@ pub enum Fault {
     Unworkable,
     TooWide,
     TooMany,
-    Row,
 }
 
 // A fault, and the line where it stands, or 0.
-#[derive(Drop)]
+#[derive(Clone, Copy)]
 pub struct Refusal {
     pub fault: Fault,
     pub line: usize,
@@ -147,7 +145,7 @@ pub struct Refusal {
 
 // What a question can cost: its width, the largest bar count at any token, the structures held, the cells of the workspace that these
 // take, and a ceiling for the rounds.
-#[derive(Drop)]
+#[derive(Clone, Copy)]
 pub struct Forecast {
     pub width: usize,
     pub bars: usize,
@@ -157,44 +155,37 @@ pub struct Forecast {
 }
 
 // What Read hands back.
-#[derive(Drop)]
+#[derive(Clone, Copy)]
 pub enum ReadAnswer {
     Accepted(Log),
     Refused(Refusal),
 }
 
 // What Write and Merge hand back: the log's length.
-#[derive(Drop)]
+#[derive(Clone, Copy)]
 pub enum WriteAnswer {
     Written(usize),
     Refused(Refusal),
 }
 
 // What Forecast hands back.
-#[derive(Drop)]
+#[derive(Clone, Copy)]
 pub enum ForecastAnswer {
     Given(Forecast),
     Refused(Refusal),
 }
 
 // What Answer hands back: the line's length.
-#[derive(Drop)]
+#[derive(Clone, Copy)]
 pub enum LineAnswer {
     Written(usize),
     Refused(Refusal),
 }
 
 // What Holds hands back.
-#[derive(Drop)]
+#[derive(Clone, Copy)]
 pub enum HoldsAnswer {
     Yes,
     No,
-    Refused(Refusal),
-}
-
-// What HoldsMany hands back: the rounds.
-#[derive(Drop)]
-pub enum RowAnswer {
-    Tested(u32),
     Refused(Refusal),
 }
