@@ -1,4 +1,4 @@
--- What is forecast of a question of an accepted log is kept to: Answer and Holds work with just these cells, and they and HoldsMany refuse with 11 exactly where there are fewer, or too little bar space.
+-- What is forecast of a question of an accepted log is kept to: Answer and Holds work with just these cells, and refuse with 11 exactly where there are fewer, or too little bar space.
 use mathlib.Core.Path.{◌≡◌, refl, ◌∙◌}
 use mathlib.Core.Logic.{◌↔◌, ◌⊎◌, inl, inr}
 use mathlib.Core.Bool.{Bool, true, false, cond, ◌||◌}
@@ -17,15 +17,14 @@ use Rattle.model.specs.Computation.{Computation, Consistent}
 use Rattle.model.specs.Forecast.{forecast}
 use Rattle.model.specs.Answer.{answer, answer_line}
 use Rattle.model.specs.Reply.{Reply, gives, refuses, figures}
-use Rattle.model.specs.Promise.{Asked, RowOf, Foretold}
-use Rattle.model.specs.Operations.{Effect, refuse, write, poses, opening, cramped, forecast_reply_to, forecast_op, line_effect, answer_effect, answer_op, holds_reply_to, holds_op, replies_to, holds_many_op}
+use Rattle.model.specs.Promise.{Asked, Foretold}
+use Rattle.model.specs.Operations.{Effect, refuse, write, poses, opening, cramped, forecast_reply_to, forecast_op, line_effect, answer_effect, answer_op, holds_reply_to, holds_op}
 use Rattle.lattice.proofs.Tests.{clash, or-true}
 use Rattle.lattice.proofs.Consistency.{consistent_iff}
 use Rattle.lattice.proofs.Forecast.{Low, forecast-low}
 use Rattle.codec.specs.Limits.{Suitable}
 use Rattle.codec.proofs.Readings.{asked-valid}
 use Rattle.codec.proofs.Demands.{asked-opens, asked-answered, asked_written, asked-holds, opened-asked}
-use Rattle.codec.proofs.Rows.{row-effect}
 
 -- One of two sizes is too small exactly where one of two tests says so.
 too_small : (a b c d : ℕ) → ((ltb a b || ltb c d) ≡ true) ↔ ((a < b) ⊎ (c < d))
@@ -47,10 +46,13 @@ only_there reply false x y p n = (λ r. absurd (n r), λ h. clash h refl)
 given_not : (values : List ℕ) → ◌≡◌ {A = Reply} (gives values) (refuses 11 0) → ⊥
 given_not values h = let z : ◌≡◌ {A = ℕ} 0 1 = cc in absurd (omega arith)
 
--- Nor does 12 say it, or what is written else.
-written_not : (short : Bool) (values bytes out : List ℕ) → (cond short (refuse 12 0 out) (write values bytes out)).reply ≡ refuses 11 0 → ⊥
-written_not true values bytes out h = let z : ◌≡◌ {A = ℕ} 12 11 = cc in absurd (omega arith)
-written_not false values bytes out h = given_not values h
+line-not : (l out : List ℕ) → (line_effect l out).reply ≡ refuses 11 0 → ⊥
+unfolding line_effect
+line-not l out = by (ltb (length out) line_size)
+  where
+    by : (b : Bool) → (cond b (refuse 12 0 out) (write (length l ∷ []) l out)).reply ≡ refuses 11 0 → ⊥
+    by true h = let z : ◌≡◌ {A = ℕ} 12 11 = cc in absurd (omega arith)
+    by false h = given_not _ h
 
 module _ {m : Limits} (fit : Suitable m) {log : List ℕ} {q : ℕ} {K : Computation} {f : Formula} (a : Asked m log q K f) where
   pub asked-forecast : forecast_op m log q ≡ gives (figures (forecast K f))
@@ -66,9 +68,9 @@ module _ {m : Limits} (fit : Suitable m) {log : List ℕ} {q : ℕ} {K : Computa
     less = too_small ws (forecast K f).cells bs barspace_size
 
     answer_less : (out : List ℕ) → ((answer_op m log q ws bs out).reply ≡ refuses 11 0) ↔ Less
-    unfolding answer_op answer_effect line_effect
+    unfolding answer_op answer_effect
     answer_less out =
-        let i = only_there (λ (e : Effect). e.reply) (cramped K f ws bs) (refuse 11 0 out) _ refl (written_not (ltb (length out) line_size) (length (answer_line (answer K f)) ∷ []) (answer_line (answer K f)) out) in
+        let i = only_there (λ (e : Effect). e.reply) (cramped K f ws bs) (refuse 11 0 out) (line_effect (answer_line (answer K f)) out) refl (line-not _ out) in
         rw (asked-opens fit a) (λ h. less.0 (i.0 h), λ l. i.1 (less.1 l))
 
     holds_less : (c : Cut) → Consistent K c → (holds_op m log q c ws bs ≡ refuses 11 0) ↔ Less
@@ -76,11 +78,6 @@ module _ {m : Limits} (fit : Suitable m) {log : List ℕ} {q : ℕ} {K : Computa
     holds_less c p =
         let i = only_there (λ (r : Reply). r) (cramped K f ws bs) (refuses 11 0) _ refl (given_not _) in
         rw (asked-opens fit a, (consistent_iff K c).1 p) (λ h. less.0 (i.0 h), λ l. i.1 (less.1 l))
-
-    row_less : (row out : List ℕ) (k : ℕ) → RowOf K row k → ((holds_many_op m log q row ws bs out).reply ≡ refuses 11 0) ↔ Less
-    row_less row out k r =
-        let i = only_there (λ (e : Effect). e.reply) (cramped K f ws bs) (refuse 11 0 out) _ refl (written_not (ltb (length out) k) ((answer K f).rounds ∷ []) (replies_to K f row k) out) in
-        rw (row-effect fit a row k r ws bs out) (λ h. less.0 (i.0 h), λ l. i.1 (less.1 l))
 
   -- All that is promised of the reply.
   pub asked_foretold : (reply : Reply) → reply ≡ forecast_op m log q → Foretold m log q K f reply
@@ -90,7 +87,6 @@ module _ {m : Limits} (fit : Suitable m) {log : List ℕ} {q : ℕ} {K : Computa
     tests = λ ws bs c hw hb p. asked-holds fit a ws bs hw hb c p;
     turned = answer_less;
     turned_cut = holds_less;
-    turned_row = row_less;
   }
 
 -- What a log poses has low figures.

@@ -18,7 +18,7 @@ use Rattle.model.specs.Frames.{frames_of}
 use Rattle.model.specs.Formula.{Formula}
 use Rattle.model.specs.Computation.{Computation, stations, event_count}
 use Rattle.model.specs.Reading.{Reading, nothing, fault, check, report_size, header_form, station_of, event_of, event_form, with_event, message_of, admit_event, admit, Result, refused, accepted, proceed, read_items, read_log, read_frames, read_list}
-use Rattle.model.specs.Operations.{read_effect, read_op, opening, forecast_op, answer_op, holds_op, holds_many_op, write_effect, write_op, printed_of, printed}
+use Rattle.model.specs.Operations.{read_effect, read_op, opening, forecast_op, answer_op, holds_op, write_effect, write_op, printed_of, printed}
 use Rattle.model.specs.Promise.{Asked, Stays, Sized}
 use Rattle.lattice.proofs.Histories.{event_count-extended}
 use Rattle.codec.specs.Limits.{NoLarger}
@@ -78,14 +78,13 @@ module _ {m m' : Limits} (up : NoLarger m m') where
 
   -- All that is promised of a log that m accepts.
   pub stays : (log : List ℕ) (r : Reading) → read_log m log ≡ accepted r → Stays m m' log r
-  unfolding read_op read_effect opening forecast_op answer_op holds_op holds_many_op write_op write_effect
+  unfolding read_op read_effect opening forecast_op answer_op holds_op write_op write_effect
   stays log r e = record {
     accepts = log_up log r e;
     lists = λ out h. rw (e, log_up log r e, le-ltb (length out) m.list (le_trans up.list h), le-ltb (length out) m'.list h);
     forecasts = λ q. rw (e, log_up log r e);
     answers = λ q ws bs out. rw (e, log_up log r e);
     tests = λ q c ws bs. rw (e, log_up log r e);
-    rows = λ q row ws bs out. rw (e, log_up log r e);
     writes = λ l out i h. rw (i, list_up l r i, le-ltb (length out) m.bytes (le_trans up.bytes h), le-ltb (length out) m'.bytes h);
   }
 

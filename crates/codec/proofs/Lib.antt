@@ -20,7 +20,6 @@ pub mod RoundTrip
 pub mod Operations
 pub mod Suited
 pub mod Demands
-pub mod Rows
 pub mod Forecast
 pub mod Input
 pub mod Larger

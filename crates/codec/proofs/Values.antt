@@ -87,6 +87,7 @@ shows_line f h s = stands-left (hex (checked f)) (0x0A ∷ []) (stands-hex s.0 f
 -- And in the log of frames of which one is such.
 shows_log : (fs : List (List ℕ)) → Each IsFrame fs → Some Shows fs → Stands (log_of fs)
 unfolding log_of
+shows_log [] _ x3 = elim x3 [ ]
 shows_log (f ∷ fs) (e-more h r) (here s) = stands-left (line f) (log_of fs) (shows_line f h s)
 shows_log (f ∷ fs) (e-more h r) (there s) = stands-right (line f) (log_of fs) (shows_log fs r s)
 

@@ -27,5 +27,6 @@ belongs_any-some (S ∷ L) c h = elim ((or-true (belongs S c) (belongs_any L c))
 
 pub some-belongs_any : (L : List Structure) (c : Cut) → Some (λ S. belongs S c ≡ true) L → belongs_any L c ≡ true
 unfolding belongs_any
+some-belongs_any [] c x' = elim x' [ ]
 some-belongs_any (S ∷ L) c (here p) = (or-true (belongs S c) (belongs_any L c)).1 (inl p)
 some-belongs_any (S ∷ L) c (there q) = (or-true (belongs S c) (belongs_any L c)).1 (inr (some-belongs_any L c q))

@@ -128,6 +128,7 @@ inside_any-some c (d ∷ l) h = elim ((or-true (inside c d) (inside_any c l)).0 
 
 pub some-inside_any : (c : Cut) (l : List Cut) → Some (λ d. c ⊑ d) l → inside_any c l ≡ true
 unfolding inside_any
+some-inside_any c [] x' = elim x' [ ]
 some-inside_any c (d ∷ l) (here p) = (or-true (inside c d) (inside_any c l)).1 (inl (⊑-inside c d p))
 some-inside_any c (d ∷ l) (there q) = (or-true (inside c d) (inside_any c l)).1 (inr (some-inside_any c l q))
 

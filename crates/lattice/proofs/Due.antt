@@ -6,7 +6,7 @@ use native.Mathlib.Omega.{arith}
 use mathlib.Core.Bool.{Bool, true, false, cond}
 use mathlib.Core.Option.{Option, none, some}
 use mathlib.Core.List.{List, ◌∷◌}
-use Rattle.model.specs.Cut.{Cut, ◌!◌, ◌⊑◌, join}
+use Rattle.model.specs.Cut.{Cut, ◌!◌, ◌⊑◌}
 use Rattle.model.specs.Computation.{Computation, Message, Consistent, count, clock}
 use Rattle.model.specs.Atom.{sent_by, up_to, raise_atom}
 use Rattle.model.specs.Atom.Atom.{clear}

@@ -34,6 +34,7 @@ some_right (x ∷ l) h = there (some_right l h)
 
 -- What follows for one that is of a kind H follows for some of a list whose all are.
 pub some_all : {A : Type 0} {G G' H : A → Type 0} → ((x : A) → H x → G x → G' x) → {l : List A} → All H l → Some G l → Some G' l
+some_all f done x3 = elim x3 [ ]
 some_all f (also {x = x} a b) (here p) = here (f x a p)
 some_all f (also a b) (there q) = there (some_all f b q)
 
@@ -47,11 +48,13 @@ to_map f (here p) = here p
 to_map f (there q) = there (to_map f q)
 
 pub from_map : {A B : Type 0} {G : B → Type 0} (f : A → B) (l : List A) → Some G (map f l) → Some (λ x. G (f x)) l
+from_map f [] x' = elim x' [ ]
 from_map f (x ∷ l) (here p) = here p
 from_map f (x ∷ l) (there q) = there (from_map f l q)
 
 -- One of the list has it.
 pub some_one : {A B : Type 0} {G H : A → Type 0} → ((x : A) → H x → G x → B) → {l : List A} → All H l → Some G l → B
+some_one f done x3 = elim x3 [ ]
 some_one f (also {x = x} a b) (here p) = f x a p
 some_one f (also a b) (there q) = some_one f b q
 

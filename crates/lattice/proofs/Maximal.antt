@@ -16,7 +16,7 @@ use Rattle.model.specs.Answer.{tops, sort}
 use Rattle.model.specs.Promise.{Maximal, Ascending}
 use Rattle.lattice.proofs.Valid.{Valid}
 use Rattle.lattice.proofs.Lists.{All, some_all, to_map, from_map, nothing, find, found}
-use Rattle.lattice.proofs.Lists.All.{also}
+use Rattle.lattice.proofs.Lists.All.{done, also}
 use Rattle.lattice.proofs.Cuts.{trans⊑}
 use Rattle.lattice.proofs.Consistency.{same_cut}
 use Rattle.lattice.proofs.Belonging.{belongs_iff, belongs_any-some, some-belongs_any}
@@ -39,6 +39,7 @@ listed_ascending K f = sort_ascending (tops (greatests K f)) (tops_ok (greatests
 
 module _ (K : Computation) (ok : Valid K) (f : Formula) where
   greatest-true : {M : List Structure} → All (Good K) M → (c : Cut) → Some (λ S. c ≡ greatest S) M → Consistent K c × Some (λ S. belongs S c ≡ true) M
+  greatest-true done c x3 = elim x3 [ ]
   greatest-true (also {x = S} {l = M'} g a) c (here e) = subst (λ z. Consistent K z × Some (λ T. belongs T z ≡ true) (S ∷ M')) (sym e) (g.top.0, here ((belongs_iff S (greatest S)).1 (g.top.1, g.free)))
   greatest-true (also g a) c (there h) = let r = greatest-true a c h in (r.0, there r.1)
 

@@ -121,6 +121,7 @@ sort_from (c ∷ l) d m = elim (insert_from c (sort l) d m) [ inl p ↦ here p |
 
 pub sort_to : (l : List Cut) (d : Cut) → Member d l → Member d (sort l)
 unfolding sort
+sort_to [] d x' = elim x' [ ]
 sort_to (c ∷ l) d (here p) = insert_to c (sort l) d (inl p)
 sort_to (c ∷ l) d (there m) = insert_to c (sort l) d (inr (sort_to l d m))
 

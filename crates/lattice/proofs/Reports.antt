@@ -8,7 +8,7 @@ use mathlib.Core.Bool.{Bool, true, false}
 use mathlib.Core.List.{List}
 use lib.ListN.{length, get_or, drop}
 use lib.Seq.{drop-drop}
-use Rattle.model.specs.Computation.{Report, no_report}
+use Rattle.model.specs.Computation.{no_report}
 use Rattle.model.specs.Reading.{report_size, report_of, reports_of, header_kind}
 
 -- A report has two bytes or four.

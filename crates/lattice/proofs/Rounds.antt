@@ -1,7 +1,7 @@
 -- The rounds: every start follows the rule.
 -- Their bounds: a pair takes at most (events + 1) rounds from each of events + 1 starts, and a sign has no more pairs than the product of both widths, at most 16.
 use mathlib.Core.Path.{◌≡◌, sym, subst}
-use Prim.Native.Nat.{ℕ, suc, ◌+◌, ◌*◌, ◌≤◌, ◌<◌, ◌^◌}
+use Prim.Native.Nat.{ℕ, suc, ◌*◌, ◌≤◌, ◌<◌, ◌^◌}
 use native.Mathlib.Omega.{arith}
 use native.Mathlib.Nat.{le_trans, mul-le-mul, mul-le-mul_right}
 use mathlib.Core.Bool.{true}

@@ -9,7 +9,7 @@ use Rattle.model.specs.Lists.{total}
 use Rattle.model.specs.Cut.{Cut, ◌⊑◌, inside}
 use Rattle.model.specs.Computation.{Computation, Consistent, full, count, clock, event_count}
 use Rattle.model.specs.Structure.{Structure, row, raise}
-use Rattle.model.specs.Basis.{Outcome, then_right, round, onward, after, run, start}
+use Rattle.model.specs.Basis.{Outcome, then_right, round, onward, after, run}
 use Rattle.lattice.proofs.Valid.{Valid}
 use Rattle.lattice.proofs.Tests.{clash, false_iff}
 use Rattle.lattice.proofs.Cuts.{refl⊑, trans⊑, inside_⊑, ⊑-inside, total_⊑}

@@ -65,6 +65,7 @@ module _ (K : Computation) (ok : Valid K) where
 
   -- A structure's greatest cut belongs to it.
   below_top : (c : Cut) {L : List Structure} → All (Good K) L → Some (λ S. c ⊑ greatest S) L → (d : Cut) × Consistent K d × (c ⊑ d) × Some (λ T. belongs T d ≡ true) L
+  below_top c done x3 = elim x3 [ ]
   below_top c (also {x = S} g a) (here u) = (greatest S, g.top.0, u, here ((belongs_iff S (greatest S)).1 (g.top.1, g.free)))
   below_top c (also g a) (there v) = let r = below_top c a v in (r.0, r.1, r.2, there r.3)
 

@@ -18,6 +18,7 @@ Apart (c ∷ l) = ((d : Cut) → Member d l → (c ⊑ d → ⊥) × (d ⊑ c �
 
 -- Of those one is contained in the other only if they are the same.
 pub apart_same : (l : List Cut) → Apart l → (c d : Cut) → Member c l → Member d l → c ⊑ d → c ≡ d
+apart_same [] a c d x4 _ h = elim x4 [ ]
 apart_same (x ∷ l) a c d (here p) (here q) h = p ∙ sym q
 apart_same (x ∷ l) a c d (here p) (there q) h = absurd ((a.0 d q).0 (subst (λ z. z ⊑ d) p h))
 apart_same (x ∷ l) a c d (there p) (here q) h = absurd ((a.0 c p).1 (subst (λ z. c ⊑ z) q h))
@@ -25,6 +26,7 @@ apart_same (x ∷ l) a c d (there p) (there q) h = apart_same l a.1 c d p q h
 
 pub not_inside-sub : (c : Cut) (l : List Cut) (d : Cut) → Member d (not_inside c l) → Member d l
 unfolding not_inside
+not_inside-sub c [] d h = elim h [ ]
 not_inside-sub c (x ∷ l) d h = go (inside x c) h (not_inside-sub c l d)
   where
     go : (b : Bool) → Member d (cond b (not_inside c l) (x ∷ not_inside c l)) → (Member d (not_inside c l) → Member d l) → Member d (x ∷ l)
@@ -34,6 +36,7 @@ not_inside-sub c (x ∷ l) d h = go (inside x c) h (not_inside-sub c l d)
 
 not_inside_free : (c : Cut) (l : List Cut) (d : Cut) → Member d (not_inside c l) → d ⊑ c → ⊥
 unfolding not_inside
+not_inside_free c [] d h = elim h [ ]
 not_inside_free c (x ∷ l) d h = go (inside x c) refl h (not_inside_free c l d)
   where
     go : (b : Bool) → inside x c ≡ b → Member d (cond b (not_inside c l) (x ∷ not_inside c l)) → (Member d (not_inside c l) → d ⊑ c → ⊥) → d ⊑ c → ⊥
@@ -43,6 +46,7 @@ not_inside_free c (x ∷ l) d h = go (inside x c) refl h (not_inside_free c l d)
 
 not_inside_keeps : (c : Cut) (l : List Cut) (d : Cut) → Member d l → (d ⊑ c) ⊎ Member d (not_inside c l)
 unfolding not_inside
+not_inside_keeps c [] d x' = elim x' [ ]
 not_inside_keeps c (x ∷ l) d (here p) = go (inside x c) refl
   where
     go : (b : Bool) → inside x c ≡ b → (d ⊑ c) ⊎ Member d (cond b (not_inside c l) (x ∷ not_inside c l))

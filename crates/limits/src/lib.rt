@@ -1,4 +1,6 @@
 // The limits of the operations and of the printing program, as values: those of the definitions are those of the type.
+#![tactic(auto)]
+
 ghost use Rattle.std.specs.Prelude.{◌≡◌};
 ghost use Rattle.model.specs.Limits.{limits, print_limits};
 

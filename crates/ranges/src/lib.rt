@@ -1,4 +1,6 @@
 // The test of one value: inside a range, outside it or silent, and whether it passes as true or as false.
+#![tactic(auto)]
+
 ghost use Rattle.std.specs.Prelude.{◌≡◌};
 ghost use Rattle.model.specs.Atom.{is_silent, within, test, passes};
 

@@ -1,4 +1,6 @@
-// A fault's number, a yes or no as a byte, and what Holds says of a cut.
+// A fault's number, and what Holds says of a cut.
+#![tactic(auto)]
+
 ghost use Rattle.std.specs.Prelude.{◌≡◌, [], ◌∷◌};
 ghost use Rattle.model.specs.Answer.{yes_no};
 ghost use Rattle.model.specs.Reply.{gives, number, holds_reply};
@@ -28,15 +30,7 @@ pub fn number(fault: Fault) -> u8
         Fault::Unworkable => 16,
         Fault::TooWide => 17,
         Fault::TooMany => 18,
-        Fault::Row => 19,
     }
-}
-
-// 01 for yes, 00 for no.
-pub fn yes_no(b: bool) -> u8
-    ensures { result ≡ yes_no b }
-{
-    if b { 1 } else { 0 }
 }
 
 pub fn told(yes: bool) -> HoldsAnswer
