@@ -1,4 +1,6 @@
 // A frame of any kind, tried after what has been read: the choice by kind, and the event frame.
+#![tactic(auto)]
+
 mod event;
 
 ghost use Rattle.std.specs.Prelude.{◌≡◌, ◌≤◌, length};

@@ -1,4 +1,6 @@
 // What stands at the front of a question's bytes, told for a token that is no sign: an atom's, or unknown.
+#![tactic(auto)]
+
 ghost use Rattle.std.specs.Prelude.{◌≡◌, Bool, ◌&&◌, ◌∷◌, ◌<◌};
 ghost use Rattle.model.specs.declared.Aspect.{Aspect};
 ghost use Rattle.model.specs.Atom.{Atom, range_token};
@@ -11,7 +13,7 @@ use extents::{Extent, Figures};
 
 // A formula that was read: its bytes, its tokens, how many of them are atoms, whether these are sound; and under the sign it is used
 // in whether each of them can be worked out, and its extent.
-#[derive(Drop)]
+#[derive(Clone, Copy)]
 pub struct Size {
     pub used: usize,
     pub tokens: usize,
@@ -22,7 +24,7 @@ pub struct Size {
 }
 
 // What stands at the front of some bytes.
-#[derive(Drop)]
+#[derive(Clone, Copy)]
 pub enum Front {
     Nothing,
     Formula(Size),

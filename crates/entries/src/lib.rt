@@ -1,4 +1,6 @@
 // The entries of a frame list: their lengths tested, their frames tried one after the other, their lines written.
+#![tactic(auto)]
+
 ghost use Rattle.std.specs.Prelude.{◌≡◌, ◌+◌, ◌≤◌, ◌<◌, length};
 ghost use Rattle.model.specs.Limits.{limits, store_size};
 ghost use Rattle.model.specs.Frames.{frames_of, log_of};

@@ -1,4 +1,6 @@
 // How large the basis of a formula gets and what working it out takes: its figures, by the joining of extents.
+#![tactic(auto)]
+
 ghost use Rattle.std.specs.Prelude.{◌≡◌, ◌≤◌, max};
 ghost use Rattle.model.specs.Rules.{Normal};
 ghost use Rattle.lattice.specs.Signed.{joined_form, lifted_form};
@@ -6,7 +8,7 @@ ghost use Rattle.extents.specs.Extents.{extent_of, bounded, joined, lifted, Mode
 
 // The figures of a formula under the sign it is used in: width, bar count, the largest bar count at any token, structures held, and
 // the pairs of structures that its signs joined as "and" intersect if none is dropped.
-#[derive(Drop)]
+#[derive(Clone, Copy)]
 pub struct Figures {
     pub width: u16,
     pub bars: u16,
@@ -16,7 +18,7 @@ pub struct Figures {
 }
 
 // Its figures; or width or bar count is over its limit at some token.
-#[derive(Drop)]
+#[derive(Clone, Copy)]
 pub enum Extent {
     Wide,
     Narrow(Figures),

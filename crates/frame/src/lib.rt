@@ -1,4 +1,6 @@
 // What has been read, as a state, and the header and the question, tried after it.
+#![tactic(auto)]
+
 pub mod header;
 pub mod question;
 
@@ -7,7 +9,7 @@ ghost use Rattle.model.specs.Limits.{limits};
 ghost use Rattle.frame.specs.State.{fresh, after_header, after_event, after_message, after_question, first_question, faulty_at, Bounded};
 
 // What has been read, in numbers: counts has the events of each station. panelled: the header says that reports carry a panel.
-#[derive(Drop)]
+#[derive(Clone, Copy)]
 pub struct State {
     pub panelled: bool,
     pub stations: usize,
@@ -106,14 +108,14 @@ impl State {
 }
 
 // Whether a frame was admitted.
-#[derive(Drop)]
+#[derive(Clone, Copy)]
 pub enum Step {
     Next,
     Faulty(model::Fault),
 }
 
 // A frame's step, and the state after it.
-#[derive(Drop)]
+#[derive(Clone, Copy)]
 pub struct Admitted {
     pub step: Step,
     pub state: State,

@@ -1,4 +1,6 @@
 // Frames of a frame list found, and the bytes of a question.
+#![tactic(auto)]
+
 ghost use Rattle.std.specs.Prelude.{◌≡◌, List, [], ℕ, ◌≤◌, ◌<◌, length, get_or};
 ghost use Rattle.frames.specs.Asks.{Indexed, Asks};
 

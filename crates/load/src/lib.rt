@@ -1,4 +1,6 @@
 // A log read frame by frame into a frame list and a store.
+#![tactic(auto)]
+
 mod lines;
 
 ghost use Rattle.std.specs.Prelude.{◌≡◌, length};
@@ -9,7 +11,7 @@ ghost use Rattle.load.specs.Loading.{first, refused_at, Left, Loads};
 use frame::{State, Step};
 
 // Where the next line starts, its number, the length of the frame list so far, and the state.
-#[derive(Drop)]
+#[derive(Clone, Copy)]
 pub struct Position {
     pub at: usize,
     pub line: usize,
@@ -33,21 +35,21 @@ impl Position {
 }
 
 // A line's step, and the position after it.
-#[derive(Drop)]
+#[derive(Clone, Copy)]
 pub struct Turn {
     pub step: Step,
     pub position: Position,
 }
 
 // Whether a log was accepted.
-#[derive(Drop)]
+#[derive(Clone, Copy)]
 pub enum Acceptance {
     Accepted,
     Refused(model::Refusal),
 }
 
 // What loading a log comes to: the state, and the length of the frame list as far as it was read.
-#[derive(Drop)]
+#[derive(Clone, Copy)]
 pub struct Loaded {
     pub outcome: Acceptance,
     pub state: State,

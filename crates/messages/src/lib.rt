@@ -1,4 +1,6 @@
 // The message frame, tried after what has been read.
+#![tactic(auto)]
+
 ghost use Rattle.std.specs.Prelude.{◌≡◌, ◌&&◌, ◌≤◌, ◌<◌, ltb, eqb, length, get_or};
 ghost use Rattle.model.specs.Limits.{limits, message_size, store_size};
 ghost use Rattle.codec.specs.Limits.{NoLarger};

@@ -1,4 +1,6 @@
 // The operation Merge: two logs written as one.
+#![tactic(auto)]
+
 ghost use Rattle.std.specs.Prelude.{◌≡◌, ◌+◌, ◌≤◌, ltb, ◌||◌, length};
 ghost use Rattle.model.specs.Limits.{limits, store_size};
 ghost use Rattle.model.specs.Reading.{Reading, accepted, read_log};

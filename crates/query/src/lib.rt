@@ -1,5 +1,7 @@
 // Whether a question's bytes are exactly one formula, with sound atoms, its size within the limits and each atom under a sign in which
 // it can be worked out, and the figures of such a one.
+#![tactic(auto)]
+
 ghost use Rattle.std.specs.Prelude.{◌≡◌, Bool, not, List, ◌∷◌, ℕ, ◌≤◌, ◌<◌, length, drop, eqb};
 ghost use Rattle.model.specs.Formula.{formula_of};
 ghost use Rattle.query.specs.Judged.{judged, figures_in};
@@ -10,7 +12,7 @@ use atoms::{Front, Size, and, leaf};
 use extents::{Extent, Figures, join, lift};
 
 // What is said of a question: that it is fine and what its figures are as true, or why it is not.
-#[derive(Drop)]
+#[derive(Clone, Copy)]
 pub enum Verdict {
     Fine(Figures),
     Malformed,

@@ -1,4 +1,6 @@
 // The store: where the slots of its event table stand, the first of each station, and where its messages do; the rules for clocks and for messages.
+#![tactic(auto)]
+
 pub mod clock;
 pub mod message;
 

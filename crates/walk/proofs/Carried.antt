@@ -2,7 +2,7 @@
 use Rattle.std.proofs.Common.{◌≡◌, ℕ, ◌+◌, ◌-◌, ◌%◌, ◌≤◌, List, [], ◌∷◌, length, take, drop, sym, ◌∙◌, arith, drop_of_length-le, length-take-le, take-take, eq-eqb, ne_eqb}
 use mathlib.Core.Option.{some}
 use Rattle.model.specs.Lists.{total}
-use Rattle.model.specs.Bytes.{lines_of, bytes, frame, bad, carried, items}
+use Rattle.model.specs.Bytes.{lines_of, frame, bad, carried, items}
 use Rattle.codec.proofs.Cases.{between_in}
 use Rattle.walk.specs.Walked.{Framed, Spoilt, Walked}
 use Rattle.walk.specs.declared.Walk.{Walk}

@@ -1,4 +1,6 @@
 // A line of hexadecimal read in one walk, each look at the log counted.
+#![tactic(auto)]
+
 ghost use Rattle.std.specs.Prelude.{◌≡◌, ◌+◌, ◌<◌, ◌≤◌, length, drop, slice_index};
 ghost use Rattle.model.specs.Bytes.{lines_of, digit};
 ghost use Rattle.model.specs.Looks.{Looks};
@@ -7,14 +9,14 @@ ghost use Rattle.walk.specs.Pairs.{digit_of, pair_of, to_tell};
 ghost use Rattle.walk.specs.Walked.{Walked, looked, lead, looks_of};
 
 // What a byte is as a digit.
-#[derive(Drop)]
+#[derive(Clone, Copy)]
 enum Digit {
     Value(u8),
     Bad,
 }
 
 // What stands at an even place of a line.
-#[derive(Drop)]
+#[derive(Clone, Copy)]
 enum Pair {
     Byte(u8),
     End,
@@ -22,7 +24,7 @@ enum Pair {
 }
 
 // A walk over a line: the number of the line's bytes, their sum, and how many bytes of the log were looked at.
-#[derive(Drop)]
+#[derive(Clone, Copy)]
 pub enum Walk {
     Frame(usize, u8, usize),
     Malformed(usize),

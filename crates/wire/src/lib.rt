@@ -1,4 +1,6 @@
 // A line of hexadecimal written.
+#![tactic(auto)]
+
 ghost use Rattle.std.specs.Prelude.{◌≡◌, ◌+◌, ◌*◌, ◌%◌, ◌<◌, ◌≤◌, [], ◌∷◌, length};
 ghost use Rattle.model.specs.Lists.{total};
 ghost use Rattle.model.specs.Bytes.{hex_digit, hex, check_byte, line};

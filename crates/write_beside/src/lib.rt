@@ -1,4 +1,6 @@
 // The frames of two logs written as the lines of one: those of each log beside the other's.
+#![tactic(auto)]
+
 mod frames;
 mod header;
 mod report;
@@ -21,7 +23,7 @@ const EVENT: usize = 2 + Log::REPORT + Log::STATIONS;
 
 // One of the two logs: whether its reports carry a panel, and whether those of the merged log do; how many stations stand before its own,
 // and how many behind them.
-#[derive(Drop)]
+#[derive(Clone, Copy)]
 pub struct Side {
     pub panelled: bool,
     pub carried: bool,
@@ -30,7 +32,7 @@ pub struct Side {
 }
 
 // The frames of a log that stand together.
-#[derive(Drop)]
+#[derive(Clone, Copy)]
 pub enum Part {
     Events,
     Messages,
