@@ -1,4 +1,6 @@
 // The table of 07: for each count of the sender, the event of the receiver by which all that is sent is received.
+#![tactic(auto)]
+
 ghost use Rattle.std.specs.Prelude.{◌≡◌, List, ℕ, ◌+◌, ◌*◌, ◌≤◌, ◌<◌, length, get_or, replicate};
 ghost use Rattle.model.specs.Limits.{limits};
 ghost use Rattle.model.specs.Computation.{Computation, Message};

@@ -1,4 +1,6 @@
 // The bars of structures in a bar space: those of two joined, and the test whether a structure's greatest cut is contained in one.
+#![tactic(auto)]
+
 ghost use Rattle.std.specs.Prelude.{◌≡◌, List, ℕ, ◌+◌, ◌*◌, ◌≤◌, ◌<◌, length, take, drop};
 ghost use Rattle.model.specs.Cut.{inside_any};
 ghost use Rattle.model.specs.Structure.{greatest};

@@ -1,4 +1,6 @@
 // The basis of a formula and of its negation, worked out by two functions that call each other.
+#![tactic(auto)]
+
 ghost use Rattle.std.specs.Prelude.{true, false, length};
 ghost use Rattle.token.specs.Contract.{Ready, Made};
 

@@ -2,6 +2,8 @@
 // come to once A has found event k of s for it, for each k, made from the last event downwards. `above` and `under` have the two cuts of an
 // entry as the row of its event, the second half of `marks` its rounds less one. The first half says which entry a cut looks up: 255 if A finds
 // no event for it, 0 if it holds the event.
+#![tactic(auto)]
+
 ghost use Rattle.std.specs.Prelude.{◌≡◌, cond, ℕ, suc, ◌+◌, ◌*◌, ◌≤◌, ◌<◌, eqb, length, get_or, replicate};
 ghost use Rattle.std.proofs.Math.Option.{some};
 ghost use Rattle.std.proofs.Math.Seq.{paste};
@@ -20,7 +22,7 @@ use cells::{NONE, wide};
 use structure::Shape;
 
 // A station, and whether the set that is of it is the right one of a pair.
-#[derive(Drop)]
+#[derive(Clone, Copy)]
 pub struct Station {
     pub x: Shape,
     pub s: usize,
@@ -104,7 +106,7 @@ fn put_entry(
     ensures tells { (K : Computation) (A B : Structure) (E : ℕ → Entry) (k : ℕ) → Given K A B q.s marks.old table.now first.now
         → Chained K q.right q.s E (suc k) (chain_of above.old under.old marks.old) → k ≤ count K q.s → v ≡ number K q.s k
         → Tells K (some (entry_at K q.right q.s (own_row A q.s) B E k)) (row_of above.new v) (row_of under.new v) (get_or marks.new (256 + v) 0) }
-    ensures by_index { (m : ℕ) → Low m marks.old → get_or marks.new (256 + v) 0 ≤ suc m }
+    ensures low_mark { (m : ℕ) → Low m marks.old → get_or marks.new (256 + v) 0 ≤ suc m }
 {
     let s = q.s;
     let p = wide(marks[wide(table[v * 8 + s])]);

@@ -10,7 +10,6 @@ use lib.ListN.{get_or, take, drop, replicate}
 use Rattle.model.specs.Cut.{Cut, ◌!◌, ◌⊑◌, join}
 use Rattle.model.specs.Computation.{Computation, count, clock, event_count}
 use Rattle.model.specs.Structure.{Structure, row, joined}
-use Rattle.model.specs.Basis.{start}
 use Rattle.lattice.specs.OfStation.{own_row}
 use Rattle.lattice.specs.Chains.{outcome_of_first_round, entries}
 use Rattle.lattice.proofs.Structures.{Least}

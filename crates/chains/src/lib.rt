@@ -1,5 +1,7 @@
 // Pairs of structures of which one set raises cuts by an event of one station: a start is looked up in tables over that station's events,
 // which is proved to come to the same in as many rounds.
+#![tactic(auto)]
+
 ghost use Rattle.std.specs.Prelude.{◌≡◌, ℕ, ◌+◌, ◌*◌, ◌≤◌, ◌<◌, length, take, drop};
 ghost use Rattle.model.specs.Computation.{Computation, count, event_count};
 ghost use Rattle.model.specs.Structure.{Structure, row};

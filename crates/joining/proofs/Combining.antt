@@ -5,13 +5,9 @@ use native.Mathlib.Omega.{arith}
 use mathlib.Core.List.{List, ◌++◌}
 use mathlib.Core.Bool.{Bool, true, false}
 use lib.ListN.{length, drop, replicate}
-use Rattle.model.specs.Formula.{tokens}
 use Rattle.model.specs.Computation.{Computation, full}
 use Rattle.model.specs.Structure.{Structure}
-use Rattle.model.specs.Basis.{basis}
 use Rattle.structure.specs.Layout.{standing, bar_cells}
-use Rattle.lattice.proofs.Signed as signed
-use Rattle.lattice.specs.Signed.{two}
 use Rattle.structure.proofs.Places.{cells_are}
 use Rattle.structure.proofs.Standing.{standing-add}
 use Rattle.modal.specs.Post.{Present}
@@ -22,8 +18,6 @@ use Rattle.structure.specs.Marks.{Marked, Within}
 use Rattle.structure.proofs.Marks.{none-marked, none_within}
 use Rattle.joining.specs.Combined.{Combined}
 use Rattle.pairs.specs.Post.{Paired}
-use Rattle.token.proofs.Tokens as tokens
-use Rattle.token.proofs.Normals as normals
 
 module _ (shape : Shape) (l r : Sets) (u v : ℕ) (starts w w₂ b b₂ : List ℕ) (sets : Sets) (sum : ℕ) (t : Bool) where
   -- The pairs: none is marked.

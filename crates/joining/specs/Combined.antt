@@ -2,7 +2,6 @@
 use Rattle.std.specs.Prelude.{ℕ, ◌+◌, ◌*◌, ◌≡◌, Bool, List, length}
 use Rattle.model.specs.Computation.{Computation, full}
 use Rattle.model.specs.Structure.{Structure}
-use Rattle.model.specs.Rounds.{rounds}
 use Rattle.structure.specs.Layout.{standing}
 use Rattle.structure.specs.declared.Shape.{Shape}
 use Rattle.structure.specs.declared.Sets.{Sets}

@@ -1,4 +1,6 @@
 // The step for "and" and "or": two bases that stand one behind the other are joined, as their pairs, moved to the front, or as they stand.
+#![tactic(auto)]
+
 ghost use Rattle.std.specs.Prelude.{◌≡◌, true, List, ◌++◌, ℕ, ◌+◌, ◌*◌, ◌≤◌, length, drop};
 ghost use Rattle.std.proofs.Math.Seq.{paste};
 ghost use Rattle.model.specs.Computation.{Computation};

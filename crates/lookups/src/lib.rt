@@ -1,6 +1,8 @@
 // The starts of a pair of which one set raises cuts by an event of one station, each looked up in tables over that station's events. The cuts are
 // joined in passes of their own, tables to tables, so that the compiler makes each join one operation on eight cells; the last pass compares,
 // counts and writes the rows.
+#![tactic(auto)]
+
 ghost use Rattle.std.specs.Prelude.{◌≡◌, true, false, cond, List, ℕ, ◌+◌, ◌*◌, ◌≤◌, ◌<◌, length, get_or};
 ghost use Rattle.model.specs.Computation.{Computation, clock};
 ghost use Rattle.model.specs.Structure.{Structure};
@@ -17,7 +19,7 @@ use chaining::Station;
 use slots::Outcome;
 
 // A start's outcome and its rounds; its cut stands as a row of `out`.
-#[derive(Drop)]
+#[derive(Clone, Copy)]
 struct Step {
     outcome: Outcome,
     rounds: u32,
@@ -79,7 +81,7 @@ fn lost_rounds(cuts: &[u8; 2048], marks: &[u8; 512], i: usize, s: usize) -> u32
     requires { (length cuts.now ≡ 2048) × (length marks.now ≡ 512) × (i < 256) × (s < 8) }
     ensures value { (K : Computation) (S T : Structure) (j k : ℕ) (out last first : List ℕ) → AtEvent K S T s out last cuts.now first marks.now i j k → get_or out (i * 8) 0 ≡ 255
         → result ≡ (start K S T (clock K j k)).rounds }
-    ensures by_index { (m : ℕ) → Low m marks.now → result ≤ m + 2 }
+    ensures few_rounds { (m : ℕ) → Low m marks.now → result ≤ m + 2 }
 {
     if cuts[i * 8] == NONE {
         return 1;
@@ -102,7 +104,7 @@ fn raised_rounds(
     requires { (length out.now ≡ 2048) × (length last.now ≡ 2048) × (length cuts.now ≡ 2048) × (length first.now ≡ 2048) × (length marks.now ≡ 512) × (i < 256) × (s < 8) }
     ensures value { (K : Computation) (S T : Structure) (j k : ℕ) → AtEvent K S T s out.now last.now cuts.now first.now marks.now i j k
         → get_or out.now (i * 8) 0 < 255 → result ≡ (start K S T (clock K j k)).rounds }
-    ensures by_index { (m : ℕ) → Low m marks.now → result ≤ m + 2 }
+    ensures few_rounds { (m : ℕ) → Low m marks.now → result ≤ m + 2 }
 {
     let p = wide(marks[wide(cuts[i * 8 + s])]);
     if p == 0 {
@@ -126,7 +128,7 @@ fn look_up(
     requires { (length out.now ≡ 2048) × (length last.now ≡ 2048) × (length cuts.now ≡ 2048) × (length first.now ≡ 2048) × (length marks.now ≡ 512) × (i < 256) × (s < 8) }
     ensures looked { (K : Computation) (S T : Structure) (j k : ℕ) → AtEvent K S T s out.now last.now cuts.now first.now marks.now i j k
         → Looked K (start K S T (clock K j k)) (row_of out.now i) result }
-    ensures by_index { (m : ℕ) → Low m marks.now → result.rounds ≤ m + 2 }
+    ensures few_rounds { (m : ℕ) → Low m marks.now → result.rounds ≤ m + 2 }
 {
     if says_none(out[i * 8]) {
         return Step {

@@ -1,6 +1,8 @@
 // Counts as numbers of events, and back. Events are numbered from 1 on, station by station; a cut has for each station the number of its last
 // event, and the cells past the stations are 0. The rows of a structure stand in a table of rows of eight cells: row 0 is the least cut and row
 // i that of event i, so that each cell of a cut names the row to join, and a 0 the least cut again. The table has a row for every byte.
+#![tactic(auto)]
+
 ghost use Rattle.std.specs.Prelude.{◌≡◌, ℕ, ◌+◌, ◌*◌, ◌-◌, ◌≤◌, ◌<◌, min, length, get_or, take, drop};
 ghost use Rattle.std.proofs.Math.Option.{Option};
 ghost use Rattle.model.specs.Cut.{Cut};

@@ -1,4 +1,6 @@
 // One pair of structures of two bases: its intersection, and whether it is kept.
+#![tactic(auto)]
+
 ghost use Rattle.std.specs.Prelude.{◌≡◌, ◌+◌, ◌*◌, ◌≤◌, length};
 ghost use Rattle.model.specs.Basis.{intersect};
 ghost use Rattle.model.specs.Rounds.{rounds_of_pair};
@@ -9,14 +11,14 @@ use cells::wide;
 use structure::Shape;
 
 // How many pairs were kept, and the rounds of all.
-#[derive(Drop)]
+#[derive(Clone, Copy)]
 pub struct Pairs {
     pub count: usize,
     pub rounds: u32,
 }
 
 // Which structures make a pair, and where it goes: the left, the right and the new one; and the marks of the first two.
-#[derive(Drop)]
+#[derive(Clone, Copy)]
 pub struct Pair {
     pub left: usize,
     pub right: usize,

@@ -1,4 +1,6 @@
 // The pairs of two bases that stand one behind the other, row by row.
+#![tactic(auto)]
+
 ghost use Rattle.std.specs.Prelude.{◌≡◌, ◌+◌, ◌*◌, ◌≤◌, length};
 ghost use Rattle.model.specs.Lists.{sum};
 ghost use Rattle.model.specs.Basis.{intersect, each};
@@ -13,7 +15,7 @@ use pair::{Pair, Pairs};
 use structure::{Sets, Shape};
 
 // A row of pairs and where it goes: one left structure with `many` from the right one on, and the first new one; and the marks of the first two.
-#[derive(Drop)]
+#[derive(Clone, Copy)]
 pub struct Row {
     pub left: usize,
     pub right: usize,
@@ -40,7 +42,7 @@ fn pair_row(
         ws.old ws.new bs.old bs.new
         (λ K. each (intersect K (structure_of x.n x.e K ws.old bs.old q.left)) (standing_from x.n x.e K ws.old bs.old q.right q.many))
         (λ K. sum (rounds_of_pair K (structure_of x.n x.e K ws.old bs.old q.left)) (standing_from x.n x.e K ws.old bs.old q.right q.many)) result.rounds }
-    ensures left_len_2 { (length left.new ≡ 2048) × (length right.new ≡ 2048) }
+    ensures lengths { (length left.new ≡ 2048) × (length right.new ≡ 2048) }
 {
     let n = x.n;
     let e = x.e;

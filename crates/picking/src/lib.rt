@@ -1,6 +1,8 @@
 // The entries that cuts look up, for a set that raises cuts by an event of one station s: for each event of s a byte that says the number of
 // the event whose entry is looked up by a cut with this event for its last of s, 255 if the set finds no event for it, 0 if it holds the event.
 // What is looked up is joined row by row.
+#![tactic(auto)]
+
 ghost use Rattle.std.specs.Prelude.{◌≡◌, cond, ℕ, ◌+◌, ◌*◌, ◌≤◌, ◌<◌, eqb, length, get_or, take};
 ghost use Rattle.std.proofs.Math.Seq.{paste};
 ghost use Rattle.model.specs.Lists.{total};

@@ -1,5 +1,7 @@
 // One round of an intersection: the left half, then the right half, each a raising in a table of rows. Two short ways are proved to come to
 // the same: the first left half of a start is a row of the left structure; where a later left half changes nothing, so does its right half.
+#![tactic(auto)]
+
 ghost use Rattle.std.specs.Prelude.{◌≡◌, ℕ, ◌≤◌, ◌<◌, length};
 ghost use Rattle.std.proofs.Math.Option.{Option};
 ghost use Rattle.model.specs.Cut.{Cut};
@@ -12,14 +14,14 @@ ghost use Rattle.round.specs.Said.{Answers};
 ghost use Rattle.slots.specs.Pair.{Above, Both};
 
 // How a round ended.
-#[derive(Drop)]
+#[derive(Clone, Copy)]
 pub enum Round {
     Raised { changed: bool },
     Lost,
 }
 
 // A round's outcome, whether its right half changed nothing, and the cut that it raised to.
-#[derive(Drop)]
+#[derive(Clone, Copy)]
 pub struct RoundResult {
     pub outcome: Round,
     pub settled: bool,

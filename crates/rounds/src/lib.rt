@@ -1,4 +1,6 @@
 // The rounds of an intersection: all starts of a pair of structures, each as a table of rows.
+#![tactic(auto)]
+
 ghost use Rattle.std.specs.Prelude.{◌≡◌, ◌+◌, ◌*◌, ◌≤◌, ◌<◌, length};
 ghost use Rattle.model.specs.Computation.{Computation};
 ghost use Rattle.model.specs.Structure.{Structure};

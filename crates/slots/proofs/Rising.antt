@@ -7,7 +7,7 @@ use mathlib.Core.List.{List}
 use mathlib.Core.Option.{Option, none, some}
 use lib.ListN.{length, get_or, take, drop, replicate, get_or-eq_default}
 use Rattle.model.specs.Cut.{Cut, ◌!◌, join}
-use Rattle.model.specs.Computation.{Computation, stations}
+use Rattle.model.specs.Computation.{Computation}
 use Rattle.model.specs.Structure.{Structure, row, joined, raise_by, raise}
 use Rattle.model.specs.Basis.{then_right}
 use Rattle.cells.proofs.Cuts.{join_zeros}

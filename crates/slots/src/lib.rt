@@ -1,4 +1,6 @@
 // A structure as a table of rows of eight cells, in which a cut is raised without a branch, and what a start of a pair came to, put as a row.
+#![tactic(auto)]
+
 ghost use Rattle.std.specs.Prelude.{◌≡◌, true, ◌+◌, ◌≤◌, ◌<◌, length, get_or, take, drop};
 ghost use Rattle.std.proofs.Math.Option.{Option};
 ghost use Rattle.model.specs.Cut.{Cut};
@@ -12,7 +14,7 @@ ghost use Rattle.slots.specs.Reached.{Reached};
 pub use numbering::{coding, put_rows};
 
 // How a start ended.
-#[derive(Drop)]
+#[derive(Clone, Copy)]
 pub enum Outcome {
     Raised,
     Lost,

@@ -1,5 +1,7 @@
 // One start of an intersection: all its rounds, counted. Where the right half of a round changed nothing, the next round changes nothing: it is
 // counted and not run.
+#![tactic(auto)]
+
 ghost use Rattle.std.specs.Prelude.{◌≡◌, ℕ, suc, ◌+◌, ◌≤◌, length};
 ghost use Rattle.model.specs.Cut.{Cut};
 ghost use Rattle.model.specs.Computation.{Computation, event_count, count, clock};
@@ -15,7 +17,7 @@ use round::{Round, first_round, next_round};
 use slots::Outcome;
 
 // A start's outcome, the cut that it raised to, and its rounds.
-#[derive(Drop)]
+#[derive(Clone, Copy)]
 pub struct Start {
     pub outcome: Outcome,
     pub cut: [u8; 8],

@@ -1,4 +1,6 @@
 // The step for an atom, either sign, and the writing of cells and bars that the other steps share.
+#![tactic(auto)]
+
 ghost use Rattle.std.specs.Prelude.{◌≡◌, true, [], ℕ, ◌+◌, ◌*◌, ◌≤◌, ◌<◌, length, get_or, take, drop, replicate};
 ghost use Rattle.std.proofs.Math.Option.{Option};
 ghost use Rattle.std.proofs.Math.Seq.{paste};
@@ -17,7 +19,7 @@ use model::{Aspect, Log};
 use structure::{Shape, event_row};
 
 // What is looked at of a station, and a range of it, ends included; through zero where lo is above hi.
-#[derive(Drop)]
+#[derive(Clone, Copy)]
 pub struct Interval {
     pub aspect: Aspect,
     pub station: usize,

@@ -1,4 +1,6 @@
 // Structures in a workspace: raising a cut, the bars, whether a cut belongs.
+#![tactic(auto)]
+
 ghost use Rattle.std.specs.Prelude.{◌≡◌, List, ℕ, ◌+◌, ◌*◌, ◌≤◌, ◌<◌, length, get_or, take, drop};
 ghost use Rattle.model.specs.Limits.{limits};
 ghost use Rattle.model.specs.Cut.{inside_any};
@@ -10,7 +12,7 @@ ghost use Rattle.structure.specs.Added.{Added};
 use cells::{NONE, contained, copy_cut, join_at, wide};
 
 // The stations and events of a log: how many there are, how many events each station has, and how many all stations before it.
-#[derive(Drop)]
+#[derive(Clone, Copy)]
 pub struct Shape {
     pub n: usize,
     pub e: usize,
@@ -19,7 +21,7 @@ pub struct Shape {
 }
 
 // Structures one behind the other: how many, and for each the station by whose events alone its set raises cuts, plus 1, or 0 where that is not said.
-#[derive(Drop)]
+#[derive(Clone, Copy)]
 pub struct Sets {
     pub count: usize,
     pub stations: [u8; 16],

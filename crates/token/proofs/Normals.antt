@@ -7,7 +7,7 @@ use mathlib.Core.Bool.{Bool, true, false}
 use mathlib.Core.List.{[]}
 use Rattle.model.specs.Atom.{Atom, raise_atom}
 use Rattle.model.specs.Formula.{Formula, tokens, signs}
-use Rattle.model.specs.Formula.Formula.{atom, and}
+use Rattle.model.specs.Formula.Formula.{atom}
 use Rattle.model.specs.Computation.{Computation, event_count}
 use Rattle.model.specs.Rules.{Normal, as_true, as_false}
 use Rattle.model.specs.Structure.{build}

@@ -9,7 +9,6 @@ use lib.ListN.{length, get_or, drop, replicate, length-drop, length-append}
 use lib.Seq.{get_or-take}
 use Rattle.model.specs.Atom.{Atom, atom_bytes, sound_atom, askable, raise_atom}
 use Rattle.model.specs.Formula.{Formula, prefix, sound, weigh, tokens}
-use Rattle.model.specs.Formula.Formula.{not}
 use Rattle.model.specs.Computation.{Computation, full}
 use Rattle.model.specs.Rules.{Normal, workable}
 use Rattle.model.specs.Size.{width, held, narrow}
@@ -18,7 +17,7 @@ use Rattle.model.specs.Basis.{basis}
 use Rattle.model.specs.Rounds.{rounds}
 use Rattle.structure.specs.Layout.{standing}
 use Rattle.lattice.proofs.Signed as signed
-use Rattle.lattice.specs.Signed.{normal, two, joined_form, lifted_form}
+use Rattle.lattice.specs.Signed.{normal, joined_form, lifted_form}
 use Rattle.lattice.proofs.Tests.{and-true}
 use Rattle.lattice.proofs.Theorem.{basis_ascend}
 use Rattle.lattice.proofs.Size.{basis-width, narrow_to, width_pos}

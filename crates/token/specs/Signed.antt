@@ -1,6 +1,5 @@
 -- Tokens and steps, with the sign as an argument.
 use Rattle.std.specs.Prelude.{ℕ, Bool, true, false, List, ◌++◌}
-use Rattle.model.specs.Formula.Formula.{and, or, possibly}
 use Rattle.model.specs.Computation.{Computation}
 use Rattle.model.specs.Structure.{Structure}
 use Rattle.model.specs.Basis.{pairs, lowered, barred}

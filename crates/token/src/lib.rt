@@ -1,4 +1,6 @@
 // The steps for tokens of at most one operand: an atom at the front of a question, not, possibly and not possibly.
+#![tactic(auto)]
+
 ghost use Rattle.std.specs.Prelude.{◌≡◌, true, ◌∷◌, ◌+◌, ◌*◌, ◌≤◌, ◌<◌, length, get_or, replicate};
 ghost use Rattle.model.specs.Atom.{range_token};
 ghost use Rattle.structure.specs.Shaped.{Shaped};
@@ -11,7 +13,7 @@ use model::Aspect;
 use structure::{Sets, Shape};
 
 // A basis at the front of the workspace: its structures, the bytes of the question that it took, its rounds.
-#[derive(Drop)]
+#[derive(Clone, Copy)]
 pub struct Basis {
     pub sets: Sets,
     pub used: usize,
@@ -100,7 +102,7 @@ pub fn leaf(
     sign: bool,
 ) -> Basis
     requires ready { Ready sign x q.now starts.now facts.now (length ws.old) (length bs.old) }
-    requires fact { 1 < get_or q.now 0 0 → get_or q.now 0 0 < 7 → ⊥ }
+    requires not_sign { 1 < get_or q.now 0 0 → get_or q.now 0 0 < 7 → ⊥ }
     ensures { Made sign x q.now starts.now facts.now result.sets result.used result.rounds ws.new bs.new }
 {
     let t = q[0];

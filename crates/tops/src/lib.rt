@@ -1,4 +1,6 @@
 // The greatest cut of a structure in a workspace, from the last row of each station.
+#![tactic(auto)]
+
 ghost use Rattle.std.specs.Prelude.{◌≡◌, List, ℕ, ◌+◌, ◌*◌, ◌≤◌, ◌<◌, length, get_or, take, drop};
 ghost use Rattle.lattice.specs.Ascending.{LastRow};
 ghost use Rattle.structure.specs.Layout.{placed};
