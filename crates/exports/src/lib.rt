@@ -1,12 +1,12 @@
 // The operations for C and Rust: numbers and byte slices in, a reply packed in one number out.
+#![tactic(auto)]
+
 ghost use Rattle.std.specs.Prelude.{◌≡◌, length};
 ghost use Rattle.model.specs.Limits.{limits};
-ghost use Rattle.model.specs.Operations.{read_op, write_op, merge_op, forecast_op, answer_op, holds_op, holds_many_op, Kept};
-ghost use Rattle.packing.specs.Packed.{packed, read_widths, write_widths, forecast_widths, answer_widths, holds_widths, row_widths};
+ghost use Rattle.model.specs.Operations.{read_op, write_op, merge_op, forecast_op, answer_op, holds_op, Kept};
+ghost use Rattle.packing.specs.Packed.{packed, read_widths, write_widths, forecast_widths, answer_widths, holds_widths};
 
-use packing::{
-    packed_answer, packed_forecast, packed_holds, packed_read, packed_row, packed_write,
-};
+use packing::{packed_answer, packed_forecast, packed_holds, packed_read, packed_write};
 
 // Read: the counts of stations, events and questions and the list's length, or a refusal.
 #[unsafe(no_mangle)]
@@ -14,7 +14,7 @@ pub extern "C" fn moment_read(log: &[u8], out: &mut [u8]) -> u64
     ensures value { result ≡ packed read_widths (read_op limits log.now out.old).reply }
     ensures out_after { out.new ≡ (read_op limits log.now out.old).output }
 {
-    packed_read(log::read(log, out))
+    packed_read(op_read_write::read(log, out))
 }
 
 // Write: the log's length, or a refusal.
@@ -23,7 +23,7 @@ pub extern "C" fn moment_write(list: &[u8], out: &mut [u8]) -> u64
     ensures value { result ≡ packed write_widths (write_op limits list.now out.old).reply }
     ensures out_after { out.new ≡ (write_op limits list.now out.old).output }
 {
-    packed_write(log::write(list, out))
+    packed_write(op_read_write::write(list, out))
 }
 
 // Merge: the merged log's length, or a refusal.
@@ -55,7 +55,7 @@ pub extern "C" fn moment_answer(
     ensures value { result ≡ packed answer_widths (answer_op limits log.now question (length ws.old) (length bs.old) out.old).reply }
     ensures out_after { out.new ≡ (answer_op limits log.now question (length ws.old) (length bs.old) out.old).output }
     ensures kept { Kept (answer_op limits log.now question (length ws.old) (length bs.old) out.old).reply ws.old ws.new }
-    ensures kept_2 { Kept (answer_op limits log.now question (length ws.old) (length bs.old) out.old).reply bs.old bs.new }
+    ensures kept_bars { Kept (answer_op limits log.now question (length ws.old) (length bs.old) out.old).reply bs.old bs.new }
 {
     packed_answer(answer::answer(log, question, ws, bs, out))
 }
@@ -71,25 +71,7 @@ pub extern "C" fn moment_holds(
 ) -> u64
     ensures value { result ≡ packed holds_widths (holds_op limits log.now question cut.now (length ws.old) (length bs.old)) }
     ensures kept { Kept (holds_op limits log.now question cut.now (length ws.old) (length bs.old)) ws.old ws.new }
-    ensures kept_2 { Kept (holds_op limits log.now question cut.now (length ws.old) (length bs.old)) bs.old bs.new }
+    ensures kept_bars { Kept (holds_op limits log.now question cut.now (length ws.old) (length bs.old)) bs.old bs.new }
 {
     packed_holds(holds::holds(log, question, cut, ws, bs))
-}
-
-// HoldsMany: the rounds, or a refusal.
-#[unsafe(no_mangle)]
-pub extern "C" fn moment_holds_many(
-    log: &[u8],
-    question: usize,
-    cuts: &[u8],
-    ws: &mut [u8],
-    bs: &mut [u8],
-    out: &mut [u8],
-) -> u64
-    ensures value { result ≡ packed row_widths (holds_many_op limits log.now question cuts.now (length ws.old) (length bs.old) out.old).reply }
-    ensures out_after { out.new ≡ (holds_many_op limits log.now question cuts.now (length ws.old) (length bs.old) out.old).output }
-    ensures kept { Kept (holds_many_op limits log.now question cuts.now (length ws.old) (length bs.old) out.old).reply ws.old ws.new }
-    ensures kept_2 { Kept (holds_many_op limits log.now question cuts.now (length ws.old) (length bs.old) out.old).reply bs.old bs.new }
-{
-    packed_row(op_holds_many::holds_many(log, question, cuts, ws, bs, out))
 }

@@ -1,4 +1,6 @@
 // The operation Holds.
+#![tactic(auto)]
+
 ghost use Rattle.std.specs.Prelude.{◌≡◌, ◌≤◌, length};
 ghost use Rattle.model.specs.Limits.{limits, barspace_size};
 ghost use Rattle.model.specs.Formula.{Formula};

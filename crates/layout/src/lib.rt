@@ -1,4 +1,6 @@
 // The store of a loaded log laid out for the basis, and the test whether a cut is consistent.
+#![tactic(auto)]
+
 pub mod consistent;
 mod messages;
 mod reports;

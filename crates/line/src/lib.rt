@@ -1,4 +1,6 @@
 // An answer's line, from its start, cuts and rounds; a refusal's line.
+#![tactic(auto)]
+
 ghost use Rattle.std.specs.Prelude.{◌∷◌, ◌++◌, ◌≡◌, ◌+◌, ◌*◌, ◌≤◌, length, take};
 ghost use Rattle.model.specs.Limits.{limits, frame_size, line_size};
 ghost use Rattle.model.specs.Answer.{yes_no, four_bytes, answer_line, refusal_line};
@@ -7,7 +9,13 @@ ghost use Rattle.cells.specs.Put.{put_of};
 ghost use Rattle.line.specs.AtFront.{AtFront};
 
 use model::Log;
-use replies::yes_no;
+
+// 01 for yes, 00 for no.
+fn yes_no(b: bool) -> u8
+    ensures { result ≡ yes_no b }
+{
+    if b { 1 } else { 0 }
+}
 
 // How many numbers fit two bytes, and three.
 const TWO: u32 = 256 * 256;

@@ -1,4 +1,6 @@
 // From a basis that stands in a workspace to start and listed cuts: whether a cut belongs, the greatest cuts in order.
+#![tactic(auto)]
+
 ghost use Rattle.std.specs.Prelude.{◌≡◌, List, map, ℕ, ◌+◌, ◌*◌, ◌≤◌, length, take};
 ghost use Rattle.model.specs.Limits.{limits};
 ghost use Rattle.model.specs.Formula.{Formula};
@@ -67,7 +69,7 @@ fn starts(ws: &[u8], bs: &[u8], count: usize, x: Shape) -> bool
 }
 
 // What is listed of a basis: whether its question is true at the cut that holds no event, the number of cuts listed, and the rounds.
-#[derive(Drop)]
+#[derive(Clone, Copy)]
 pub struct Listing {
     pub start: bool,
     pub count: usize,

@@ -1,4 +1,6 @@
 // The offsets of stations: how many events all stations before each of them have.
+#![tactic(auto)]
+
 ghost use Rattle.std.specs.Prelude.{◌≡◌, ℕ, ◌≤◌, ◌<◌, length, get_or, take};
 ghost use Rattle.model.specs.Limits.{limits};
 ghost use Rattle.model.specs.Lists.{total};

@@ -18,8 +18,7 @@ use Rattle.model.specs.Operations.{answer_lines}
 use Rattle.codec.proofs.Suited.{print_suitable}
 use Rattle.codec.proofs.Demands.{asked-line-fits}
 use Rattle.load.specs.declared.Loaded.{Loaded}
-use Rattle.load.specs.Loading.{Accepts, Loads}
-use Rattle.load.proofs.Loads as load
+use Rattle.load.specs.Loading.{Accepts}
 use Rattle.cells.proofs.Parts.{put_end}
 use Rattle.line.specs.AtFront.{AtFront}
 use Rattle.question.specs.Questions.{Question}

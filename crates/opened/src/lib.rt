@@ -1,18 +1,19 @@
-// A log that was opened for a question, or loaded for all of them: it is laid out, and they are answered, or one is worked out, or tested at a cut.
+// A log that was opened for a question, or loaded for all of them: it is laid out, and they are answered, or one is tested at a cut.
+#![tactic(auto)]
+
 ghost use Rattle.std.specs.Prelude.{◌≡◌, List, ℕ, ◌≤◌, length};
 ghost use Rattle.model.specs.Limits.{limits, print_limits, store_size, barspace_size, line_size, printed_size};
 ghost use Rattle.model.specs.Forecast.{forecast};
 ghost use Rattle.model.specs.Answer.{answer, answer_line, true_at};
 ghost use Rattle.model.specs.Operations.{answer_lines};
 ghost use Rattle.line.specs.AtFront.{AtFront};
-ghost use Rattle.listing.specs.Worked.{Worked};
 ghost use Rattle.load.specs.Loading.{Accepts};
 ghost use Rattle.opening.specs.Opening.{Poses};
 ghost use Rattle.opening.specs.Prepared.{Prepared};
 
 use model::Log;
 use opening::{asked, lay};
-use question::{belongs, put_line};
+use question::{put_line, true_at};
 use structure::Shape;
 
 // Writes the answer line to the question of an opened log at the front of `out`; hands back its length.
@@ -26,7 +27,7 @@ pub fn answer_one(
     out: &mut [u8],
 ) -> usize
     requires length_in_bounds { (loaded.length ≤ length list.now) × (length store.now ≡ store_size) × (barspace_size ≤ length bs.old) × (line_size ≤ length out.old) }
-    requires by_index { (log : List ℕ) × (p : Poses limits log question loaded list.now store.now) × ((forecast p.accepts.reading.computation p.question).cells ≤ length ws.old) }
+    requires poses { (log : List ℕ) × (p : Poses limits log question loaded list.now store.now) × ((forecast p.accepts.reading.computation p.question).cells ≤ length ws.old) }
     ensures { (log : List ℕ) (p : Poses limits log question loaded list.now store.now) → AtFront (answer_line (answer p.accepts.reading.computation p.question)) result out.old out.new }
 {
     let mut starts = [0u8; Log::STARTS];
@@ -34,37 +35,6 @@ pub fn answer_one(
     let x = lay(store, loaded, &mut starts, &mut facts);
     let q = asked(list, loaded, question);
     put_line(q, x, &starts, &facts, ws, bs, out)
-}
-
-// A question worked out: its basis, and the shape of the log that was laid out for it.
-#[derive(Drop)]
-pub struct WorkedOut {
-    pub basis: token::Basis,
-    pub shape: Shape,
-}
-
-// Works the question of an opened log out; its basis then stands at the front of the workspace and the bar space.
-pub fn work_out(
-    list: &[u8],
-    store: &[u8],
-    loaded: load::Loaded,
-    question: usize,
-    ws: &mut [u8],
-    bs: &mut [u8],
-) -> WorkedOut
-    requires length_in_bounds { (loaded.length ≤ length list.now) × (length store.now ≡ store_size) × (barspace_size ≤ length bs.old) }
-    requires by_index { (log : List ℕ) × (p : Poses limits log question loaded list.now store.now) × ((forecast p.accepts.reading.computation p.question).cells ≤ length ws.old) }
-    ensures { (result.shape.n ≡ loaded.state.stations) × ((log : List ℕ) (p : Poses limits log question loaded list.now store.now) → Worked p.accepts.reading.computation p.question result.shape result.basis.sets.count result.basis.rounds ws.new bs.new) }
-{
-    let mut starts = [0u8; Log::STARTS];
-    let mut facts = [0u16; Log::FACTS];
-    let x = lay(store, loaded, &mut starts, &mut facts);
-    let q = asked(list, loaded, question);
-    let basis = question::work_out(q, x, &starts, &facts, ws, bs);
-    WorkedOut {
-        basis: basis,
-        shape: x,
-    }
 }
 
 // Tells whether the question of an opened log is true at a cut.
@@ -78,11 +48,14 @@ pub fn test_cut(
     bs: &mut [u8],
 ) -> bool
     requires length_in_bounds { (loaded.length ≤ length list.now) × (length store.now ≡ store_size) × (length cut.now ≡ loaded.state.stations) × (barspace_size ≤ length bs.old) }
-    requires by_index { (log : List ℕ) × (p : Poses limits log question loaded list.now store.now) × ((forecast p.accepts.reading.computation p.question).cells ≤ length ws.old) }
+    requires poses { (log : List ℕ) × (p : Poses limits log question loaded list.now store.now) × ((forecast p.accepts.reading.computation p.question).cells ≤ length ws.old) }
     ensures { (log : List ℕ) (p : Poses limits log question loaded list.now store.now) → result ≡ true_at p.accepts.reading.computation p.question cut.now }
 {
-    let worked = work_out(list, store, loaded, question, ws, bs);
-    belongs(ws, bs, worked.basis, worked.shape, cut)
+    let mut starts = [0u8; Log::STARTS];
+    let mut facts = [0u16; Log::FACTS];
+    let x = lay(store, loaded, &mut starts, &mut facts);
+    let q = asked(list, loaded, question);
+    true_at(q, x, &starts, &facts, cut, ws, bs)
 }
 
 // The answer lines to all questions of a log that is laid out, one after another; hands back where the last ends.
@@ -114,7 +87,7 @@ fn put_lines(
 // Writes the answer lines to all questions of a loaded log; hands back where the last ends.
 pub fn answer_all(list: &[u8], store: &[u8], loaded: load::Loaded, out: &mut [u8]) -> usize
     requires length_in_bounds { (loaded.length ≤ length list.now) × (length store.now ≡ store_size) × (printed_size ≤ length out.old) }
-    requires by_index { (log : List ℕ) × Accepts print_limits log loaded.state loaded.length list.now store.now }
+    requires accepts { (log : List ℕ) × Accepts print_limits log loaded.state loaded.length list.now store.now }
     ensures { (log : List ℕ) (a : Accepts print_limits log loaded.state loaded.length list.now store.now) → AtFront (answer_lines a.reading.computation a.reading.questions) result out.old out.new }
 {
     let mut starts = [0u8; Log::STARTS];

@@ -14,7 +14,7 @@ use Rattle.model.specs.Formula.{Formula, prefix, sound}
 use Rattle.model.specs.Rules.{as_true, workable}
 use Rattle.model.specs.Size.{fits}
 use Rattle.model.specs.Cut.{Cut}
-use Rattle.model.specs.Computation.{stations, count, event_count, full, is_consistent}
+use Rattle.model.specs.Computation.{stations, event_count, full, is_consistent}
 use Rattle.model.specs.Promise.{Asked}
 use Rattle.lattice.proofs.Consistency.{consistent_iff}
 use Rattle.lattice.proofs.Lists.{all_at, elem_there, some_below}

@@ -1,4 +1,6 @@
 // What every operation that asks about a question begins with: a log is loaded, has the question, and there is room for what it can cost.
+#![tactic(auto)]
+
 ghost use Rattle.std.specs.Prelude.{◌≡◌, List, ℕ, ◌≤◌, ◌<◌, length};
 ghost use Rattle.std.proofs.Math.Option.{some};
 ghost use Rattle.std.proofs.Math.ListN.{get_elem?};
@@ -48,7 +50,7 @@ pub fn open_log(
 // The bytes of a question of a loaded log.
 pub fn asked(list: &[u8], loaded: Loaded, question: usize) -> &[u8]
     requires question_lt_questions { (question < loaded.state.questions) × (loaded.length ≤ length list.now) }
-    requires by_index { (t : List ℕ) × Holding loaded list.now t }
+    requires held { (t : List ℕ) × Holding loaded list.now t }
     ensures { (m : Limits) (log t : List ℕ) (a : Accepts m log loaded.state loaded.length list.now t) (f : Formula) → get_elem? a.reading.questions question ≡ some f → result.now ≡ prefix f }
 {
     let s = loaded.state;
@@ -59,7 +61,7 @@ pub fn asked(list: &[u8], loaded: Loaded, question: usize) -> &[u8]
 // Lays a loaded log out in starts and facts, and gives its shape.
 pub fn lay(store: &[u8], loaded: Loaded, starts: &mut [u8], facts: &mut [u16]) -> Shape
     requires store_len { (length store.now ≡ store_size) × (starts_size ≤ length starts.old) × (facts_size ≤ length facts.old) }
-    requires by_index { (list : List ℕ) × Holding loaded list store.now }
+    requires held { (list : List ℕ) × Holding loaded list store.now }
     ensures { (result.n ≡ loaded.state.stations) × ((m : Limits) (log list : List ℕ) (a : Accepts m log loaded.state loaded.length list store.now) → Given a.reading.computation result starts.new facts.new) }
 {
     let s = loaded.state;
@@ -72,7 +74,7 @@ pub fn lay(store: &[u8], loaded: Loaded, starts: &mut [u8], facts: &mut [u16]) -
 // What a question of a loaded log can cost.
 pub fn foresee(list: &[u8], loaded: Loaded, question: usize) -> Forecast
     requires question_lt_questions { (question < loaded.state.questions) × (loaded.length ≤ length list.now) }
-    requires by_index { (t : List ℕ) × Holding loaded list.now t }
+    requires held { (t : List ℕ) × Holding loaded list.now t }
     ensures { (m : Limits) (log t : List ℕ) (a : Accepts m log loaded.state loaded.length list.now t) (f : Formula) → get_elem? a.reading.questions question ≡ some f → result ≡ forecast a.reading.computation f }
 {
     let s = loaded.state;
@@ -94,7 +96,7 @@ pub fn foresee(list: &[u8], loaded: Loaded, question: usize) -> Forecast
 // Has the workspace fewer cells than are forecast of the question, or is the bar space too small?
 pub fn cramped(list: &[u8], loaded: Loaded, question: usize, ws: usize, bs: usize) -> bool
     requires question_lt_questions { (question < loaded.state.questions) × (loaded.length ≤ length list.now) }
-    requires by_index { (t : List ℕ) × Holding loaded list.now t }
+    requires held { (t : List ℕ) × Holding loaded list.now t }
     ensures { (m : Limits) (log t : List ℕ) (a : Accepts m log loaded.state loaded.length list.now t) (f : Formula) → get_elem? a.reading.questions question ≡ some f → result ≡ cramped a.reading.computation f ws bs }
 {
     let f = foresee(list, loaded, question);

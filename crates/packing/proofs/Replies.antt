@@ -149,6 +149,8 @@ one-packed w v x e = let z : v ≡ packed (w ∷ []) (gives (v ∷ [])) = omega 
 -- Values that fit stay below what their bits can say.
 pack-low : (widths values : List ℕ) → Fits widths values → pack widths values < 2 ^ total widths
 unfolding pack sum
+pack-low (w ∷ widths) [] p = elim p [ ]
+pack-low [] (v ∷ values) p = elim p [ ]
 pack-low [] [] p = omega arith
 pack-low (w ∷ widths) (v ∷ values) (p, q) =
     let l = pack-low widths values q in
@@ -156,6 +158,10 @@ pack-low (w ∷ widths) (v ∷ values) (p, q) =
 
 pack_same : (widths l m : List ℕ) → Fits widths l → Fits widths m → pack widths l ≡ pack widths m → l ≡ m
 unfolding pack
+pack_same (w ∷ widths) (v ∷ l) [] p q e = elim q [ ]
+pack_same (w ∷ widths) [] m p q e = elim p [ ]
+pack_same [] (v ∷ l) m p q e = elim p [ ]
+pack_same [] [] (x ∷ m) p q e = elim q [ ]
 pack_same [] [] [] p q e = refl
 pack_same (w ∷ widths) (v ∷ l) (x ∷ m) (a, p) (b, q) e =
     let h : v ≡ x = sym (low (pack widths l) w a) ∙ ap (λ (n : ℕ). n % 2 ^ w) e ∙ low (pack widths m) w b in

@@ -14,7 +14,7 @@ unfoldable pub packed : List ℕ → Reply → ℕ
 packed widths (gives values) = pack widths values
 packed widths (refuses k n) = k * 2 ^ 59 + n
 
--- Read's counts of stations, events and questions and the list's length; the length of what Write, Merge or Answer wrote; Forecast's width, bars, structures held, cells and ceiling; Holds' yes or no; HoldsMany's rounds.
+-- Read's counts of stations, events and questions and the list's length; the length of what Write, Merge or Answer wrote; Forecast's width, bars, structures held, cells and ceiling; Holds' yes or no.
 abbrev pub read_widths : List ℕ
 read_widths = 8 ∷ 8 ∷ 8 ∷ 16 ∷ []
 
@@ -29,9 +29,6 @@ answer_widths = 16 ∷ []
 
 abbrev pub holds_widths : List ℕ
 holds_widths = 1 ∷ []
-
-abbrev pub row_widths : List ℕ
-row_widths = 32 ∷ []
 
 -- As many values as widths, each within its bits.
 abbrev pub Fits : List ℕ → List ℕ → Type 0

@@ -1,12 +1,13 @@
 // The operations' replies, each packed in one number.
+#![tactic(auto)]
+
 ghost use Rattle.std.specs.Prelude.{◌≡◌, ℕ, ◌+◌, ◌^◌, ◌≤◌, ◌<◌, List, [], ◌∷◌};
 ghost use Rattle.model.specs.Limits.{limits};
-ghost use Rattle.model.specs.Reply.{gives, refusal, figures, read_reply, write_reply, forecast_reply, line_reply, holds_reply, row_reply};
-ghost use Rattle.packing.specs.Packed.{packed, read_widths, write_widths, forecast_widths, answer_widths, holds_widths, row_widths, Fair};
+ghost use Rattle.model.specs.Reply.{gives, refusal, figures, read_reply, write_reply, forecast_reply, line_reply, holds_reply};
+ghost use Rattle.packing.specs.Packed.{packed, read_widths, write_widths, forecast_widths, answer_widths, holds_widths, Fair};
 
 use model::{
-    Forecast, ForecastAnswer, HoldsAnswer, LineAnswer, Log, ReadAnswer, Refusal, RowAnswer,
-    WriteAnswer,
+    Forecast, ForecastAnswer, HoldsAnswer, LineAnswer, Log, ReadAnswer, Refusal, WriteAnswer,
 };
 
 // One in the highest five bits.
@@ -91,16 +92,5 @@ pub fn packed_holds(a: HoldsAnswer) -> u64
         HoldsAnswer::Yes => 1,
         HoldsAnswer::No => 0,
         HoldsAnswer::Refused(r) => packed_refusal(r),
-    }
-}
-
-// HoldsMany's reply: the rounds, or a refusal.
-pub fn packed_row(a: RowAnswer) -> u64
-    requires { Fair row_widths (row_reply a) }
-    ensures { result ≡ packed row_widths (row_reply a) }
-{
-    match a {
-        RowAnswer::Tested(rounds) => rounds as u64,
-        RowAnswer::Refused(r) => packed_refusal(r),
     }
 }

@@ -1,4 +1,6 @@
 // All that the program prints.
+#![tactic(auto)]
+
 ghost use Rattle.std.specs.Prelude.{◌≡◌, List, ◌++◌, ℕ, ◌≤◌, length, take, drop};
 ghost use Rattle.model.specs.Operations.{printed};
 
@@ -34,7 +36,7 @@ pub fn print_log(log: &[u8], out: &mut [u8; PRINTED]) -> usize
 pub fn run(input: &[u8; INPUT], got: usize, out: &mut [u8; PRINTED]) -> usize
     ensures value { (result ≡ length (printed (take got input.now))) × (result ≤ length out.new) }
     ensures out_after { out.new ≡ printed (take got input.now) ++ drop result out.old }
-    ensures by_index { (file : List ℕ) → take got input.now ≡ take (length input.now) file → (result ≡ length (printed file)) × (out.new ≡ printed file ++ drop result out.old) }
+    ensures whole_file { (file : List ℕ) → take got input.now ≡ take (length input.now) file → (result ≡ length (printed file)) × (out.new ≡ printed file ++ drop result out.old) }
 {
     let n = if got < INPUT { got } else { INPUT };
     let all: &[u8] = input;

@@ -1,4 +1,6 @@
 // One question of a log that is laid out: its basis worked out, asked at a cut, its answer's line.
+#![tactic(auto)]
+
 ghost use Rattle.std.specs.Prelude.{◌≡◌, ◌≤◌, length};
 ghost use Rattle.model.specs.Limits.{barspace_size, line_size};
 ghost use Rattle.model.specs.Formula.{Formula};
@@ -57,4 +59,22 @@ pub fn put_line(
     let mut cuts = [0u8; Log::CUTS];
     let listed = listing::list(ws, bs, basis.sets.count, x, basis.rounds, &mut cuts);
     line::put_answer(listed.start, &cuts, listed.count, x.n, listed.rounds, out)
+}
+
+// Is the question true at a cut of n counts?
+pub fn true_at(
+    q: &[u8],
+    x: Shape,
+    starts: &[u8],
+    facts: &[u16],
+    cut: &[u8],
+    ws: &mut [u8],
+    bs: &mut [u8],
+) -> bool
+    requires question { (K : Computation) × (f : Formula) × Question K f q.now x starts.now facts.now × ((forecast K f).cells ≤ length ws.old) }
+    requires cut_len { (length cut.now ≡ x.n) × (barspace_size ≤ length bs.old) }
+    ensures { (K : Computation) (f : Formula) → Question K f q.now x starts.now facts.now → result ≡ true_at K f cut.now }
+{
+    let basis = work_out(q, x, starts, facts, ws, bs);
+    belongs(ws, bs, basis, x, cut)
 }

@@ -1,0 +1,22 @@
+-- `line::put_four` meets its contract: four stores in a row.
+use native.Mathlib.Omega.{arith}
+use lib.ListN.{length-set}
+use Rattle.model.specs.Answer.{four_bytes}
+use Rattle.line.proofs.Frames.{four_stores}
+use Rattle.line.proofs.put_four.Goals as goal
+
+pub bounds-out-at-2 : goal.bounds-out-at-2
+bounds-out-at-2 c = simp length-set (omega arith)
+
+pub bounds-out-at-3 : goal.bounds-out-at-3
+bounds-out-at-3 c = simp length-set (omega arith)
+
+pub bounds-out-at-4 : goal.bounds-out-at-4
+bounds-out-at-4 c = simp length-set (omega arith)
+
+pub shape_of-out : goal.shape_of-out
+shape_of-out c = simp length-set
+
+pub returns : goal.returns
+unfolding four_bytes
+returns c = four_stores c.args.out.now c.args.at _ _ _ _ c.requires

@@ -1,0 +1,15 @@
+-- `packing::packed_write`: each case of the answer is packed as its reply is. A refusal's line is low, since the reply is fair.
+use mathlib.Core.Path.{sym, ap, ◌∙◌}
+use Rattle.model.specs.Reply.{write_reply}
+use Rattle.packing.specs.Packed.{packed, write_widths}
+use Rattle.packing.proofs.Replies.{line_low, one-packed}
+use Rattle.packing.proofs.packed_write.Goals as goal
+
+pub packed_refusal-requires : goal.packed_refusal-requires
+packed_refusal-requires c = line_low write_widths _ _ _ (ap write_reply (sym c.in-Refused.is)) c.requires
+
+pub returns-in-Written : goal.returns-in-Written
+returns-in-Written c = one-packed _ _ _ (ap write_reply (sym c.in-Written.is))
+
+pub returns-in-Refused : goal.returns-in-Refused
+returns-in-Refused c = c.packed_refusal.ensures write_widths ∙ ap (packed write_widths) (ap write_reply (sym c.in-Refused.is))
