@@ -1,4 +1,6 @@
 // Prints, for the test program, the basis of each question of a log: for each structure its least cut, its greatest cut and its bars.
+#![tactic(auto)]
+
 ghost use Rattle.std.specs.Prelude.{◌≡◌, List, ℕ, ◌+◌, ◌*◌, ◌≤◌, ◌<◌, length};
 ghost use Rattle.model.specs.Limits.{limits, print_limits, store_size, workspace_size, barspace_size};
 ghost use Rattle.model.specs.Formula.{Formula};
@@ -9,39 +11,55 @@ ghost use Rattle.load.specs.Loading.{Accepts};
 ghost use Rattle.question.specs.Questions.{Question};
 ghost use Rattle.opening.specs.Prepared.{Prepared};
 
+use host::write_bytes;
 use model::Log;
+use std::io;
 use structure::Shape;
 
 // The bars at a place.
-fn print_bars(bs: &[u8], at: usize, n: usize)
+fn print_bars(rt: &HostRuntime, bs: &[u8], at: usize, n: usize) -> io::Result<()>
     requires { (0 < n) × (n ≤ limits.stations) × (at + 16 * n ≤ length bs.now) }
 {
     let mut i = 0;
     while i < 16 {
         let from = at + i * n;
         if bs[from] == cells::NONE {
-            return;
+            return Ok(());
         }
-        trial::print_line(b"bar", &bs[from..from + n]);
+        trial::print_line(rt, b"bar", &bs[from..from + n])?;
         i += 1;
     }
+    Ok(())
 }
 
 // The structure at a place of the workspace, with its bars.
-fn print_structure(ws: &[u8], at: usize, bs: &[u8], bar: usize, x: Shape)
+fn print_structure(
+    rt: &HostRuntime,
+    ws: &[u8],
+    at: usize,
+    bs: &[u8],
+    bar: usize,
+    x: Shape,
+) -> io::Result<()>
     requires shaped { Shaped x }
     requires n_in_bounds { (at + (x.e + 1) * x.n ≤ length ws.now) × (bar + 16 * x.n ≤ length bs.now) }
 {
     let n = x.n;
-    trial::print_line(b"least", &ws[at..at + n]);
+    trial::print_line(rt, b"least", &ws[at..at + n])?;
     let mut greatest = [0u8; 8];
     tops::greatest(ws, at, x, &mut greatest);
-    trial::print_line(b"greatest", &greatest[0..n]);
-    print_bars(bs, bar, n);
+    trial::print_line(rt, b"greatest", &greatest[0..n])?;
+    print_bars(rt, bs, bar, n)
 }
 
 // The structures at the front of the workspace.
-fn print_structures(ws: &[u8], bs: &[u8], count: usize, x: Shape)
+fn print_structures(
+    rt: &HostRuntime,
+    ws: &[u8],
+    bs: &[u8],
+    count: usize,
+    x: Shape,
+) -> io::Result<()>
     requires shaped { Shaped x }
     requires count_bound { (count ≤ 16) × (count * ((x.e + 1) * x.n) ≤ length ws.now) × (count * (16 * x.n) ≤ length bs.now) }
 {
@@ -51,25 +69,35 @@ fn print_structures(ws: &[u8], bs: &[u8], count: usize, x: Shape)
     let slot = 16 * n;
     let mut i = 0;
     while i < count {
-        print_structure(ws, i * size, bs, i * slot, x);
+        print_structure(rt, ws, i * size, bs, i * slot, x)?;
         i += 1;
     }
+    Ok(())
 }
 
 // The basis of one question, and its rounds.
-fn print_basis(q: &[u8], x: Shape, starts: &[u8], facts: &[u16], ws: &mut [u8], bs: &mut [u8])
+fn print_basis(
+    rt: &HostRuntime,
+    q: &[u8],
+    x: Shape,
+    starts: &[u8],
+    facts: &[u16],
+    ws: &mut [u8],
+    bs: &mut [u8],
+) -> io::Result<()>
     requires question { (K : Computation) × (f : Formula) × Question K f q.now x starts.now facts.now × ((forecast K f).cells ≤ length ws.old) }
     requires barspace_size_in_bounds { barspace_size ≤ length bs.old }
 {
     let basis = question::work_out(q, x, starts, facts, ws, bs);
     let count = basis.sets.count;
-    trial::print_count(b"structures", count);
-    print_structures(ws, bs, count, x);
-    trial::print_count(b"rounds", basis.rounds as usize);
+    trial::print_count(rt, b"structures", count)?;
+    print_structures(rt, ws, bs, count, x)?;
+    trial::print_count(rt, b"rounds", basis.rounds as usize)
 }
 
 // The bases of all questions of a log that is laid out.
 fn print_questions(
+    rt: &HostRuntime,
     list: &[u8],
     loaded: load::Loaded,
     x: Shape,
@@ -77,7 +105,7 @@ fn print_questions(
     facts: &[u16],
     ws: &mut [u8],
     bs: &mut [u8],
-)
+) -> io::Result<()>
     requires length_in_bounds { (loaded.length ≤ length list.now) × (workspace_size ≤ length ws.old) × (barspace_size ≤ length bs.old) }
     requires prepared { Prepared print_limits loaded list.now x starts.now facts.now }
 {
@@ -85,38 +113,37 @@ fn print_questions(
     let mut i = 0;
     while i < s.questions {
         let q = opening::asked(list, loaded, i);
-        print_basis(q, x, starts, facts, ws, bs);
+        print_basis(rt, q, x, starts, facts, ws, bs)?;
         i += 1;
     }
+    Ok(())
 }
 
 // The same for a log that is loaded.
-fn print_loaded(list: &[u8], store: &[u8], loaded: load::Loaded)
+fn print_loaded(rt: &HostRuntime, list: &[u8], store: &[u8], loaded: load::Loaded) -> io::Result<()>
     requires length_in_bounds { (loaded.length ≤ length list.now) × (length store.now ≡ store_size) }
-    requires by_index { (log : List ℕ) × Accepts print_limits log loaded.state loaded.length list.now store.now }
+    requires accepts { (log : List ℕ) × Accepts print_limits log loaded.state loaded.length list.now store.now }
 {
     let mut starts = [0u8; Log::STARTS];
     let mut facts = [0u16; Log::FACTS];
     let x = opening::lay(store, loaded, &mut starts, &mut facts);
     let mut ws = [0u8; Log::WORKSPACE];
     let mut bs = [0u8; Log::BARSPACE];
-    print_questions(list, loaded, x, &starts, &facts, &mut ws, &mut bs);
+    print_questions(rt, list, loaded, x, &starts, &facts, &mut ws, &mut bs)
 }
 
 // The bases of a log, or its refusal.
-pub fn print_case(log: &[u8]) {
-    io::write_all(1, b"\n");
+pub fn print_case(rt: &HostRuntime, log: &[u8]) -> io::Result<()> {
+    write_bytes(rt, b"\n")?;
     let mut list = [0u8; Log::LIST];
     let mut store = [0u8; Log::STORE];
     let loaded = load::load(limits::print_limits(), log, &mut list, &mut store);
     let outcome = loaded.outcome;
     match outcome {
         load::Acceptance::Refused(refusal) => {
-            trial::print_refusal(refusal);
-            io::write_all(1, b"\n");
+            trial::print_refusal(rt, refusal)?;
+            write_bytes(rt, b"\n")
         }
-        load::Acceptance::Accepted => {
-            print_loaded(&list, &store, loaded);
-        }
+        load::Acceptance::Accepted => { print_loaded(rt, &list, &store, loaded) }
     }
 }
