@@ -6,13 +6,12 @@ here=$(cd "$(dirname "$0")" && pwd)
 library=$here/target/staticlib/libexports.a
 
 mkdir -p "$here/target"
-if [ ! -e "$library" ] || [ -n "$(find "$here/crates" "$here/crates.txt" -newer "$library" -print -quit)" ]; then
+if [ ! -e "$library" ] || [ -n "$(find "$here/crates" "$here/crates.txt" -name out -prune -o -type f -newer "$library" -print -quit)" ]; then
     echo "floor.sh: proving the library and every crate below it: some minutes the first time, nothing while no crate changes" >&2
-    if ! (cd "$here" && rt staticlib exports) </dev/null 2>&1 | tee "$here/target/floor.log" | sed -un 's/^rt: \([a-z_]* proved ([0-9]* s)\)$/floor.sh: \1/p' >&2; then
+    if ! (cd "$here" && tools/build.sh exports) </dev/null 2>&1 | tee "$here/target/floor.log" | sed -un 's/^checked \([a-z_]*\)::.*, \([0-9]*\) of \2$/floor.sh: \1 is checked/p' >&2; then
         tail -n 20 "$here/target/floor.log" >&2
         exit 4
     fi
-    touch "$library"
 fi
 (cd "$here" && cargo build --release --locked --quiet -p floor) </dev/null >&2 || exit 4
 exec "$here/target/cargo/release/floor" "$@"

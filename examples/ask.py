@@ -202,7 +202,7 @@ def main(arguments):
     try:
         library = Library()
     except (OSError, subprocess.CalledProcessError) as why:
-        return failed("the library", f"{why} (`rt staticlib exports` makes the static one, gcc the shared one)")
+        return failed("the library", f"{why} (`tools/build.sh exports` makes the static one, gcc the shared one)")
     try:
         # One byte more than a log may have tells a longer one, which is refused.
         with open(name if arguments else 0, "rb", closefd=bool(arguments)) as file:

@@ -1,7 +1,7 @@
 #!/usr/bin/env python3
 """Two halls, one log: the second hall's log is merged with the first's, and a question about both is put to the merged log.
 
-Usage: halls.py      after `rt staticlib exports`
+Usage: halls.py      after `tools/build.sh exports`
 For each question it prints the answer line as it is, and the line in words: on each hall's own log, on the merged log, and on the merged
 log with the question about both halls in it.
 """

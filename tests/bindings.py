@@ -1,7 +1,7 @@
 #!/usr/bin/env python3
 """Whether the bindings of the static library say the same: the C header and its example, the Python example, the crate `moment`.
 
-Usage: bindings.py      after `rt staticlib exports` and `cargo build --release -p compare`; exit code 1 on any difference
+Usage: bindings.py      after `tools/build.sh exports` and `cargo build --release -p compare`; exit code 1 on any difference
 Declarations and limits are compared with crates/exports and crates/model, wherever they stand. examples/ask.c is compiled by the command
 that it gives, and what it and examples/ask.py print for the logs of examples/ and for hostile input is compared with each other, with
 `compare forecast` and with Holds. What Merge makes of two logs is compared in C, C++ and Python, and with what it promises.
@@ -76,7 +76,7 @@ def declarations():
     sources = sorted(str(path.relative_to(ROOT)) for path in (ROOT / "crates/exports/src").glob("*.rt"))
     slices = {"&[u8]": [READ, NUMBER], "&mut [u8]": [WRITTEN, NUMBER], "usize": [NUMBER]}
     proved = in_rust(text_of(*sources), r'pub extern "C" fn (moment_\w+)\(([^)]*)\) -> u64', slices)
-    due("functions of crates/exports", len(proved), text_of(*sources).count("#[no_mangle]"))
+    due("functions of crates/exports", len(proved), text_of(*sources).count("#[unsafe(no_mangle)]"))
     for name in ["moment/include/moment.h", "docs/ASSUMPTIONS.md"]:
         declared(name, in_c(text_of(name)), proved)
     block = re.search(r"^library! \{\n(.*?)^\}", text_of("moment/src/lent.rs"), re.M | re.S)[1]
@@ -101,9 +101,9 @@ def limits():
     record = re.search(r"^limits = record \{(.*)\}", model, re.M)[1]
     numbers = {name: int(n) for name, n in re.findall(r"(\w+) = (\d+)", record) + re.findall(r"^(\w+) = (\d+)$", model, re.M)}
     named = {"STATIONS": "stations", "EVENTS": "events", "MESSAGES": "messages", "QUESTIONS": "questions", "LOG": "bytes", "LIST": "list",
-             "BARS": "barspaceSize", "LINE": "lineSize"}
+             "BARS": "barspace_size", "LINE": "line_size"}
     proved = {name: numbers[of] for name, of in named.items()}
-    proved["CELLS"] = numbers["mostHeld"] * proved["STATIONS"] * (proved["EVENTS"] + 1)
+    proved["CELLS"] = numbers["most_held"] * proved["STATIONS"] * (proved["EVENTS"] + 1)
     header = {name: int(n) for name, n in re.findall(r"MOMENT_(\w+) = (\d+)", text_of("moment/include/moment.h"))}
     due("limits of moment.h", header, proved)
     crate = {}
@@ -335,7 +335,7 @@ def failures(library):
 
 
 def main():
-    for path, command in [(ARCHIVE, "rt staticlib exports"), (COMPARE, "cargo build --release -p compare")]:
+    for path, command in [(ARCHIVE, "tools/build.sh exports"), (COMPARE, "cargo build --release -p compare")]:
         if not path.exists():
             sys.exit(f"{path} is not there: run `{command}`")
     library = ask.Library()

@@ -1,7 +1,7 @@
 #!/usr/bin/env python3
 """Runs the built program on files of its own, and compares what it writes with document 01 by a plain listing of every cut.
 
-Usage: program.py      after `rt check moments`; exit code 1 on any difference
+Usage: program.py      after `tools/build.sh moments`; exit code 1 on any difference
 Each file goes in as a file, through a pipe at once, and in two writes; short ones also one byte at a time. A refusal is worked out by
 hand besides, and where a log has too many cuts to list them the answer is by the rule of the basis. The logs of examples/ go in with
 what README.md shows for each.
@@ -327,7 +327,7 @@ def tried(name, data, by_hand):
 
 def main():
     if not MOMENTS.exists():
-        sys.exit("target/bin/moments is not there: run rt check moments")
+        sys.exit("target/bin/moments is not there: run tools/build.sh moments")
     limits = [at_every_limit(), at_every_limit(64), at_every_limit(64, True), at_every_limit(64, True, [0, SILENT])]
     if {at for data in limits for at in at_limits(data)} != {(32, 12, 16)}:
         sys.exit("a question is not at every limit")

@@ -293,8 +293,8 @@ def changes_of(crate, types):
     return found
 
 
-def run(room, *words):
-    return subprocess.run(["rt", *words], cwd=room, stdout=subprocess.PIPE, stderr=subprocess.STDOUT, text=True)
+def run(room, crate, word):
+    return subprocess.run(["rt", word], cwd=room / "crates" / crate, stdout=subprocess.PIPE, stderr=subprocess.STDOUT, text=True)
 
 
 class Room:
@@ -304,9 +304,6 @@ class Room:
         self.path = pathlib.Path(tempfile.mkdtemp(dir=base))
         shutil.copy(ROOT / "crates.txt", self.path)
         shutil.copytree(ROOT / "crates", self.path / "crates", ignore=shutil.ignore_patterns("must-fail", "stdin", "stdout"))
-        for part in ("rlib", "stamp"):
-            if (ROOT / "target" / part).is_dir():
-                shutil.copytree(ROOT / "target" / part, self.path / "target" / part)
 
     def verdict(self, crate, texts):
         """What comes of a crate with these files: refused, not compiled or survived."""
@@ -314,12 +311,12 @@ class Room:
         try:
             for path, text in texts.items():
                 path.write_text(text)
-            said = run(self.path, "dev", crate)
+            said = run(self.path, crate, "check")
             if said.returncode != 0:
                 return "refused" if "logic=not-proved" in said.stdout else "not compiled"
             # The quick check trusts what it kept, so a library that survives it is proved once more from its files.
             library = (self.path / "crates" / crate / "src" / "lib.rt").exists()
-            return "refused" if library and run(self.path, "check", crate).returncode != 0 else "survived"
+            return "refused" if library and run(self.path, crate, "verdict").returncode != 0 else "survived"
         finally:
             for path, text in kept.items():
                 path.write_text(text)
@@ -336,7 +333,7 @@ class Room:
         named = re.compile(r"((?:\b\w+::)*\b(?:" + "|".join(sorted(names)) + r")\b)(?!:)")
         outcomes = []
         for line in (ROOT / "crates.txt").read_text().splitlines():
-            user = line.split(":")[0]
+            user = line.split(":")[0].split()[0]
             texts = {path: path.read_text() for path in (self.path / "crates" / user / "src").glob("*.rt")}
             if user != crate and any(named.search(text) for text in texts.values()):
                 changed = {path: in_code(named, rf"(\1 {change.step:+d})", text) for path, text in texts.items()}
@@ -370,7 +367,7 @@ def try_all(crate, changes, jobs, base):
         todo.put(change)
 
     def work(room):
-        proved = run(room.path, "dev", crate)
+        proved = run(room.path, crate, "check")
         if proved.returncode != 0:
             unproved.append(proved.stdout[-2000:])
             return

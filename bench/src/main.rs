@@ -1,6 +1,6 @@
 //! Measures the proved code beside other codes and a plain listing of every cut, and writes PERFORMANCE.md with a plot.
 //!
-//! Usage: bench [FOLDER]      from the repository's root, after `rt check moments` and `rt staticlib exports`; FOLDER: docs; exit code 2
+//! Usage: bench [FOLDER]      from the repository's root, after `tools/build.sh moments` and `tools/build.sh exports`; FOLDER: docs; exit code 2
 //!                            and one line where something that it needs is not there
 //!        bench run           the times of one run, a line for each log and code
 //!        bench print CODE    answers a log from standard input by another code: `independent`, `plain` or `fast`
@@ -78,7 +78,7 @@ fn short(rows: &[Row], programs: &[Program], memory: &[Memory]) -> String {
 fn missing(folder: &str) -> Vec<String> {
     let mut all: Vec<String> = moment::MISSING.into_iter().map(String::from).collect();
     if !Path::new(MOMENTS).exists() {
-        all.push(format!("{MOMENTS} is not there: run `rt check moments`, and this from the repository's root"));
+        all.push(format!("{MOMENTS} is not there: run `tools/build.sh moments`, and this from the repository's root"));
     }
     for (tool, package) in [("valgrind", "valgrind"), ("nm", "binutils")] {
         if Command::new(tool).arg("--version").output().is_err() {
