@@ -23,11 +23,9 @@ pub fn print_limits() -> Limits
     ensures { result ≡ print_limits }
 {
     Limits {
-        stations: Log::STATIONS,
         events: Log::PRINT_EVENTS,
-        messages: Log::MESSAGES,
-        questions: Log::QUESTIONS,
         bytes: Log::PRINT_BYTES,
         list: Log::PRINT_LIST,
+        ..limits()
     }
 }

@@ -19,5 +19,6 @@ pub mod Answer
 pub mod Reading
 pub mod Merge
 pub mod Reply
+pub mod Codes
 pub mod Operations
 pub mod Promise

@@ -1,19 +1,10 @@
 -- What the operations hand back, in document 01's numbers: for every case of each answer its number and values.
-use Rattle.std.specs.Prelude.{ℕ, List, [], ◌∷◌}
+use Rattle.std.specs.Prelude.{ℕ, Bool, true, false, List, [], ◌∷◌, Result, Ok, Err}
 use Rattle.model.specs.declared.Fault.{Fault}
 use Rattle.model.specs.declared.Fault.TheVariants.{LongLog, LineForm, CheckByte, Kind, Header, Event, Clock, Formula, Size, NoQuestion, Workspace, Output, Cut, FrameList, Message, Unworkable, TooWide, TooMany}
 use Rattle.model.specs.declared.Refusal.{Refusal}
-use Rattle.model.specs.declared.ReadAnswer.{ReadAnswer}
-use Rattle.model.specs.declared.WriteAnswer.{WriteAnswer}
+use Rattle.model.specs.declared.Log.{Log}
 use Rattle.model.specs.declared.Forecast.{Forecast}
-use Rattle.model.specs.declared.ForecastAnswer.{ForecastAnswer}
-use Rattle.model.specs.declared.LineAnswer.{LineAnswer}
-use Rattle.model.specs.declared.HoldsAnswer.{HoldsAnswer}
-use Rattle.model.specs.declared.ReadAnswer.TheVariants as read
-use Rattle.model.specs.declared.WriteAnswer.TheVariants as write
-use Rattle.model.specs.declared.ForecastAnswer.TheVariants as forecast
-use Rattle.model.specs.declared.LineAnswer.TheVariants as answer
-use Rattle.model.specs.declared.HoldsAnswer.TheVariants as holds
 
 -- The values given, or the refusal's number and line.
 pub data Reply : Type 0 where
@@ -44,30 +35,30 @@ abbrev pub refusal : Refusal → Reply
 refusal r = refuses (number r.fault) r.line
 
 -- Read: the counts of stations, events and questions, and the list's length.
-abbrev pub read_reply : ReadAnswer → Reply
-read_reply (read.Accepted l) = gives (l.stations ∷ l.events ∷ l.questions ∷ l.list ∷ [])
-read_reply (read.Refused r) = refusal r
+abbrev pub read_reply : Result Log Refusal → Reply
+read_reply (Ok l) = gives (l.stations ∷ l.events ∷ l.questions ∷ l.list ∷ [])
+read_reply (Err r) = refusal r
 
 -- Write and Merge: the log's length.
-abbrev pub write_reply : WriteAnswer → Reply
-write_reply (write.Written n) = gives (n ∷ [])
-write_reply (write.Refused r) = refusal r
+abbrev pub write_reply : Result ℕ Refusal → Reply
+write_reply (Ok n) = gives (n ∷ [])
+write_reply (Err r) = refusal r
 
 -- Forecast: width, largest bar count, structures held, their cells, ceiling for the rounds.
 abbrev pub figures : Forecast → List ℕ
 figures c = c.width ∷ c.bars ∷ c.held ∷ c.cells ∷ c.ceiling ∷ []
 
-abbrev pub forecast_reply : ForecastAnswer → Reply
-forecast_reply (forecast.Given c) = gives (figures c)
-forecast_reply (forecast.Refused r) = refusal r
+abbrev pub forecast_reply : Result Forecast Refusal → Reply
+forecast_reply (Ok c) = gives (figures c)
+forecast_reply (Err r) = refusal r
 
 -- Answer: the line's length.
-abbrev pub line_reply : LineAnswer → Reply
-line_reply (answer.Written n) = gives (n ∷ [])
-line_reply (answer.Refused r) = refusal r
+abbrev pub line_reply : Result ℕ Refusal → Reply
+line_reply (Ok n) = gives (n ∷ [])
+line_reply (Err r) = refusal r
 
 -- Holds: 1 for yes, 0 for no.
-abbrev pub holds_reply : HoldsAnswer → Reply
-holds_reply holds.Yes = gives (1 ∷ [])
-holds_reply holds.No = gives (0 ∷ [])
-holds_reply (holds.Refused r) = refusal r
+abbrev pub holds_reply : Result Bool Refusal → Reply
+holds_reply (Ok true) = gives (1 ∷ [])
+holds_reply (Ok false) = gives (0 ∷ [])
+holds_reply (Err r) = refusal r

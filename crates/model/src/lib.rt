@@ -4,6 +4,8 @@
 ghost use Rattle.std.specs.Prelude.{◌≡◌};
 ghost use Rattle.model.specs.Limits.{limits};
 ghost use Rattle.model.specs.Cut.{empty};
+ghost use Rattle.model.specs.Reply.{number};
+ghost use Rattle.model.specs.Codes.{whole, kind_byte, KindOf, TokenOf};
 
 // The limits of a log, as one value.
 #[derive(Clone, Copy)]
@@ -136,11 +138,126 @@ pub enum Fault {
     TooMany,
 }
 
+// The number in document 01.
+impl From<Fault> for u8 {
+    ghost from_gives = { λ fault n. n ≡ number fault };
+
+    fn from(fault: Fault) -> u8 {
+        match fault {
+            Fault::LongLog => 1,
+            Fault::LineForm => 2,
+            Fault::CheckByte => 3,
+            Fault::Kind => 4,
+            Fault::Header => 5,
+            Fault::Event => 6,
+            Fault::Clock => 7,
+            Fault::Formula => 8,
+            Fault::Size => 9,
+            Fault::NoQuestion => 10,
+            Fault::Workspace => 11,
+            Fault::Output => 12,
+            Fault::Cut => 13,
+            Fault::FrameList => 14,
+            Fault::Message => 15,
+            Fault::Unworkable => 16,
+            Fault::TooWide => 17,
+            Fault::TooMany => 18,
+        }
+    }
+}
+
 // A fault, and the line where it stands, or 0.
 #[derive(Clone, Copy)]
 pub struct Refusal {
     pub fault: Fault,
     pub line: usize,
+}
+
+// A fault where no one line is at fault.
+impl From<Fault> for Refusal {
+    ghost from_gives = { whole };
+
+    fn from(fault: Fault) -> Refusal {
+        Refusal { fault, line: 0 }
+    }
+}
+
+// The kind of a frame; panelled: its header says that reports carry a panel.
+#[derive(Clone, Copy)]
+pub enum Kind {
+    Header { panelled: bool },
+    Event,
+    Message,
+    Question,
+}
+
+// Its first byte.
+impl From<Kind> for u8 {
+    ghost from_gives = { λ kind b. b ≡ kind_byte kind };
+
+    #[tactic(auto, unfolding(crate::specs::Reading::header_kind))]
+    fn from(kind: Kind) -> u8 {
+        match kind {
+            Kind::Header { panelled: false } => 0x10,
+            Kind::Header { panelled: true } => 0x11,
+            Kind::Event => 0x20,
+            Kind::Message => 0x25,
+            Kind::Question => 0x30,
+        }
+    }
+}
+
+// The kind that a frame's first byte says.
+impl TryFrom<u8> for Kind {
+    type Error = Fault;
+
+    ghost try_from_gives = { KindOf };
+
+    #[tactic(auto, unfolding(crate::specs::Reading::header_kind))]
+    fn try_from(byte: u8) -> Result<Kind, Fault> {
+        match byte {
+            0x10 => Ok(Kind::Header { panelled: false }),
+            0x11 => Ok(Kind::Header { panelled: true }),
+            0x20 => Ok(Kind::Event),
+            0x25 => Ok(Kind::Message),
+            0x30 => Ok(Kind::Question),
+            0x00..=0x0F | 0x12..=0x1F | 0x21..=0x24 | 0x26..=0x2F | 0x31..=0xFF => Err(Fault::Kind),
+        }
+    }
+}
+
+// The tokens of a formula: those of atoms, and signs.
+#[derive(Clone, Copy)]
+pub enum Token {
+    Range(Aspect),
+    Clear,
+    Not,
+    And,
+    Or,
+    Possibly,
+    Always,
+}
+
+// The token that a byte of a question is.
+impl TryFrom<u8> for Token {
+    type Error = Fault;
+
+    ghost try_from_gives = { TokenOf };
+
+    #[tactic(auto, unfolding(crate::specs::Atom::range_token))]
+    fn try_from(byte: u8) -> Result<Token, Fault> {
+        match byte {
+            1 => Ok(Token::Range(Aspect::Value)),
+            2 => Ok(Token::Not),
+            3 => Ok(Token::And),
+            4 => Ok(Token::Or),
+            5 => Ok(Token::Possibly),
+            6 => Ok(Token::Always),
+            7 => Ok(Token::Clear),
+            8 => Ok(Token::Range(Aspect::Panel)),
+            0 | 9..=255 => Err(Fault::Formula),
+        }
+    }
 }
 
 // What a question can cost: its width, the largest bar count at any token, the structures held, the cells of the workspace that these
@@ -152,40 +269,4 @@ pub struct Forecast {
     pub held: usize,
     pub cells: usize,
     pub ceiling: usize,
-}
-
-// What Read hands back.
-#[derive(Clone, Copy)]
-pub enum ReadAnswer {
-    Accepted(Log),
-    Refused(Refusal),
-}
-
-// What Write and Merge hand back: the log's length.
-#[derive(Clone, Copy)]
-pub enum WriteAnswer {
-    Written(usize),
-    Refused(Refusal),
-}
-
-// What Forecast hands back.
-#[derive(Clone, Copy)]
-pub enum ForecastAnswer {
-    Given(Forecast),
-    Refused(Refusal),
-}
-
-// What Answer hands back: the line's length.
-#[derive(Clone, Copy)]
-pub enum LineAnswer {
-    Written(usize),
-    Refused(Refusal),
-}
-
-// What Holds hands back.
-#[derive(Clone, Copy)]
-pub enum HoldsAnswer {
-    Yes,
-    No,
-    Refused(Refusal),
 }
