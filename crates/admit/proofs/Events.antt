@@ -1,23 +1,24 @@
 -- Laws of the event frame: its faults in their order, and the state and the store with one more event. Assumes nothing.
 use mathlib.Core.Path.{◌≡◌, refl, sym, ap, ap₂, ◌∙◌}
-use mathlib.Core.Bool.{Bool, true, false, ◌&&◌, and-false}
+use mathlib.Core.Bool.{Bool, true, false, and-false}
 use mathlib.Core.Logic.{inl, inr, ⊎_elim}
 use mathlib.Core.List.{List, [], ◌∷◌, ◌++◌}
-use Prim.Native.Nat.{ℕ, suc, ◌+◌, ◌-◌, ◌<◌, ◌≤◌}
+use Prim.Native.Nat.{ℕ, suc, ◌+◌, ◌<◌, ◌≤◌}
 use native.Mathlib.Omega.{arith}
 use native.Mathlib.Nat.{le_trans}
 use lib.Dec.{ltb, eqb}
-use borrow.Author.Tests.{eq-eqb, ne_eqb, lt-ltb, ltb-true, eqb-true, eqb-false}
+use borrow.Author.Tests.{eq-eqb, ne_eqb, lt-ltb, le-ltb, eqb-true, eqb-false}
 use lib.ListN.{length, take, drop, get_or, set, length-append, length-drop, length-set}
 use lib.Seq.{get_or-drop, get_or-set_same, get_or-set_other, drop-drop, take_all}
 use Rattle.model.specs.declared.Limits.{Limits}
+use Rattle.model.specs.declared.Fault.TheVariants.{Kind, Event, Clock}
 use Rattle.model.specs.Limits.{limits, stored_report, slot_size, store_size}
-use Rattle.model.specs.Computation.{Computation, Event, stations, count, event_count, clock_ok, clock, report}
-use Rattle.model.specs.Reading.{Reading, report_size, report_of, begun, unasked, unsent, check, station_of, event_of, event_form, extended, with_event, admit, admit_event, go, fault}
+use Rattle.model.specs.Computation as computation
+use Rattle.model.specs.Computation.{Computation, stations, count, event_count, clock_ok, clock, report}
+use Rattle.model.specs.Reading.{Reading, report_size, report_of, unsent, check, station_of, event_of, event_form, extended, with_event, admit, admit_event, go}
 use Rattle.codec.specs.Limits.{NoLarger}
 use Rattle.codec.proofs.Snoc.{empty-list}
 use Rattle.codec.proofs.Accepted.{event-true}
-use Rattle.lattice.proofs.Tests.{and-true}
 use Rattle.lattice.proofs.Reports.{report-size}
 use Rattle.cells.specs.Put.{put_of}
 use Rattle.lattice.proofs.Histories.{event_count-extended, count_same, count-other, report_old, report-new, clock_old, clock-new}
@@ -26,53 +27,20 @@ use Rattle.table.proofs.Parts.{part_same, part_other}
 use Rattle.table.proofs.Messages.{none-posted}
 use Rattle.table.proofs.Slots.{apart, report-at, clock-at, same_report, same_clock, report_back, clock_back, length-report}
 use Rattle.frame.specs.declared.State.{State}
-use Rattle.frame.specs.declared.Step.TheVariants.{Next}
-use Rattle.frame.specs.State.{after_event, Bounded, Represents, Goes, Admits}
-use Rattle.frame.proofs.Steps.{Frame, kind-event, kind-front}
+use Rattle.frame.specs.State.{is_open, after_event, Bounded, Represents, Goes, Admitted, Faulty}
+use Rattle.frame.proofs.Steps.{kind-event, kind-front, opens}
 
 -- FAULTS
 
--- what is asked of the place, of the state
-abbrev pub placed : Limits → State → Bool
-placed m s = ltb 0 s.stations && eqb s.questions 0 && eqb s.messages 0 && ltb s.events m.events
-
--- what the code's test of the place says
-module _ (m : Limits) (s : State) where
-  pub no_header : s.stations ≡ 0 → false ≡ placed m s
-  no_header e = sym (rw e)
-
-  pub after-question : (s.questions ≡ 0 → ⊥) → false ≡ placed m s
-  after-question e = sym (rw (ne_eqb s.questions 0 e) (simp and-false))
-
-  pub after-message : (s.messages ≡ 0 → ⊥) → false ≡ placed m s
-  after-message e = sym (rw (ne_eqb s.messages 0 e) (simp and-false))
-
-  pub by_room : (s.stations ≡ 0 → ⊥) → s.questions ≡ 0 → s.messages ≡ 0 → ltb s.events m.events ≡ placed m s
-  by_room a b c = sym (rw (lt-ltb 0 s.stations (omega arith), eq-eqb s.questions 0 b, eq-eqb s.messages 0 c))
-
-  earlier : Bool
-  earlier = ltb 0 s.stations && eqb s.questions 0 && eqb s.messages 0
-
-  pub room-there : placed m s ≡ true → s.events < m.events
-  unfolding earlier
-  room-there p = ltb-true s.events m.events ((and-true earlier (ltb s.events m.events)).0 p).1
-
-  none-sent : placed m s ≡ true → s.messages ≡ 0
-  unfolding earlier
-  none-sent p = eqb-true s.messages 0 ((and-true (ltb 0 s.stations && eqb s.questions 0) (eqb s.messages 0)).0 ((and-true earlier (ltb s.events m.events)).0 p).0).1
-
 -- what the code's test of the form says: n stations, w bytes of a report
 module _ (p : Bool) (n w : ℕ) (is : w ≡ report_size p) (f : List ℕ) (some_bytes : 1 ≤ length f) where
-  sized : length (drop 1 f) ≡ length f - 1
-  sized = length-drop 1 f
-
-  pub wrong-length : (length f ≡ w + 2 + n → ⊥) → false ≡ event_form p n (drop 1 f)
+  pub wrong_length : (length f ≡ w + 2 + n → ⊥) → false ≡ event_form p n (drop 1 f)
   unfolding event_form
-  wrong-length e = sym (rw (ne_eqb (length (drop 1 f)) (1 + report_size p + n) (λ z. e (omega (arith, sized)))))
+  wrong_length e = sym (rw (ne_eqb (length (drop 1 f)) (1 + report_size p + n) (λ z. e (omega (arith, length-drop 1 f)))))
 
   pub by_station : length f ≡ w + 2 + n → (j : ℕ) → j ≡ get_or f 1 0 → ltb j n ≡ event_form p n (drop 1 f)
   unfolding event_form
-  by_station e j k = sym (rw (eq-eqb (length (drop 1 f)) (1 + report_size p + n) (omega (arith, sized)), get_or-drop 1 f 0 0, ← k))
+  by_station e j k = sym (rw (eq-eqb (length (drop 1 f)) (1 + report_size p + n) (omega (arith, length-drop 1 f)), get_or-drop 1 f 0 0, ← k))
 
 -- a form that is right
 pub form_there : (p : Bool) (n : ℕ) (f : List ℕ) → event_form p n (drop 1 f) ≡ true → (length f ≡ report_size p + 2 + n) × (get_or f 1 0 < n)
@@ -80,44 +48,59 @@ form_there p n f e =
     let x = event-true p n (drop 1 f) e in
     (omega (arith, length-drop 1 f, report-size p), rw (get_or-drop 1 f 0 0) at x.1)
 
-module _ (m : Limits) {r : Reading} {s : State} {f t : List ℕ} (g : Frame 0x20 r s f t) where
-  tried : admit m r f ≡ admit_event m r (drop 1 f)
-  tried = kind-event m r f g.some_bytes g.kind
+-- the clock in the frame
+abbrev pub clock_in : State → List ℕ → List ℕ
+clock_in s f = drop (report_size s.panelled + 2) f
 
-  place : (begun r && unasked r && unsent r && ltb (event_count r.computation) m.events) ≡ placed m s
-  unfolding begun unasked unsent
-  place = let h = g.holds in rw (h.stored.size, h.questions, h.messages, h.events)
+-- the event that the definition reads
+module _ (s : State) (f : List ℕ) (formed : event_form s.panelled s.stations (drop 1 f) ≡ true) where
+  pub clock-long : length (clock_in s f) ≡ s.stations
+  clock-long = omega (arith, form_there s.panelled s.stations f formed, length-drop (report_size s.panelled + 2) f)
 
-  pub out_of_place : placed m s ≡ false → admit m r f ≡ fault 4
+  clock_same : (r : Reading) → s.panelled ≡ r.panelled → (event_of r.panelled (drop 1 f)).clock ≡ clock_in s f
+  clock_same r e =
+      let i : 1 + (1 + report_size r.panelled) ≡ report_size s.panelled + 2 = omega (arith, ap report_size e) in
+      drop-drop (1 + report_size r.panelled) 1 f ∙ ap (λ (i : ℕ). drop i f) i
+
+  report_same : (r : Reading) → s.panelled ≡ r.panelled → report_of s.panelled (drop 2 f) ≡ (event_of r.panelled (drop 1 f)).report
+  report_same r e = ap₂ report_of e (sym (drop-drop 1 1 f))
+
+  -- what the code's test of the clock says
+  tested : {t : List ℕ} (x : Bool) → ((K : Computation) → Stored K s.stations s.counts t → x ≡ clock_ok K (get_or f 1 0) (clock_in s f))
+      → (r : Reading) → Represents r s t → clock_ok r.computation (station_of (drop 1 f)) (event_of r.panelled (drop 1 f)).clock ≡ x
+  tested x e r h = rw (get_or-drop 1 f 0 0, clock_same r h.panelled) (sym (e r.computation h.stored))
+
+module _ (m : Limits) {s : State} (f t : List ℕ) (some_bytes : 1 ≤ length f) (kind : get_or f 0 0 ≡ 0x20) where
+  pub closed : is_open s ≡ false → Faulty m s f t Kind t
   unfolding admit_event check
-  out_of_place e = tried ∙ rw (place, e)
+  closed e = record { is = λ r h. kind-event m r f some_bytes kind ∙ rw (opens h, e); kept = refl }
+
+  pub after_message : (s.messages ≡ 0 → ⊥) → Faulty m s f t Kind t
+  unfolding admit_event check unsent
+  after_message e = record { is = λ r h. kind-event m r f some_bytes kind ∙ rw (← h.messages, ne_eqb s.messages 0 e) (simp and-false); kept = refl }
+
+  pub full : m.events ≤ s.events → Faulty m s f t Kind t
+  unfolding admit_event check
+  full e = record { is = λ r h. kind-event m r f some_bytes kind ∙ rw (← h.events, le-ltb s.events m.events e) (simp and-false); kept = refl }
 
   -- the frame is in place
-  module _ (p : placed m s ≡ true) where
-    form : event_form r.panelled (stations r.computation) (drop 1 f) ≡ event_form s.panelled s.stations (drop 1 f)
-    form = rw (g.holds.stored.size, g.holds.panelled)
+  module _ (opened : is_open s ≡ true) (none : s.messages ≡ 0) (room : s.events < m.events) where
+    placed : (r : Reading) → Represents r s t
+        → admit m r f ≡ check 6 (event_form s.panelled s.stations (drop 1 f)) (check 7 (clock_ok r.computation (station_of (drop 1 f)) (event_of r.panelled (drop 1 f)).clock) (go (with_event r (drop 1 f))))
+    unfolding admit_event check unsent
+    placed r h = kind-event m r f some_bytes kind ∙ rw (opens h, opened, ← h.messages, none, ← h.events, lt-ltb s.events m.events room, h.stored.size, ← h.panelled)
 
-    pub misshapen : event_form s.panelled s.stations (drop 1 f) ≡ false → admit m r f ≡ fault 6
-    unfolding admit_event check
-    misshapen e = tried ∙ rw (place, p, form, e)
+    pub misshapen : event_form s.panelled s.stations (drop 1 f) ≡ false → Faulty m s f t Event t
+    unfolding check
+    misshapen e = record { is = λ r h. placed r h ∙ rw e; kept = refl }
 
-    -- its form is right
-    module _ (l : event_form s.panelled s.stations (drop 1 f) ≡ true) where
-      formed : admit m r f ≡ check 7 (clock_ok r.computation (station_of (drop 1 f)) (event_of r.panelled (drop 1 f)).clock) (go (with_event r (drop 1 f)))
-      unfolding admit_event check
-      formed = tried ∙ rw (place, p, form, l)
-
-      pub clock-wrong : clock_ok r.computation (station_of (drop 1 f)) (event_of r.panelled (drop 1 f)).clock ≡ false → admit m r f ≡ fault 7
-      unfolding check
-      clock-wrong e = formed ∙ rw e
-
-      pub clock-right : clock_ok r.computation (station_of (drop 1 f)) (event_of r.panelled (drop 1 f)).clock ≡ true → admit m r f ≡ go (with_event r (drop 1 f))
-      unfolding check
-      clock-right e = formed ∙ rw e
+    pub clock-wrong : event_form s.panelled s.stations (drop 1 f) ≡ true → ((K : Computation) → Stored K s.stations s.counts t → false ≡ clock_ok K (get_or f 1 0) (clock_in s f)) → Faulty m s f t Clock t
+    unfolding check
+    clock-wrong l e = record { is = λ r h. placed r h ∙ rw (l, tested s f l false e r h); kept = refl }
 
 -- THE TABLE WITH ONE MORE EVENT: bytes are its report and its clock
 module _ {K : Computation} {n : ℕ} {counts t : List ℕ} (g : Stored K n counts t) (sized : length K.events ≡ stations K) (few : n ≤ limits.stations) (eight : length counts ≡ limits.stations) (long : length t ≡ store_size)
-    (s : ℕ) (there : s < n) (low : (j : ℕ) → get_or counts j 0 < limits.events) (e : Event) (bytes : List ℕ) (wide : length bytes ≡ stored_report + n)
+    (s : ℕ) (there : s < n) (low : (j : ℕ) → get_or counts j 0 < limits.events) (e : computation.Event) (bytes : List ℕ) (wide : length bytes ≡ stored_report + n)
     (reports : report_of true bytes ≡ e.report) (clocked : drop stored_report bytes ≡ e.clock) where
   now : Computation
   now = extended K s e
@@ -212,10 +195,6 @@ module _ {K : Computation} {n : ℕ} {counts t : List ℕ} (g : Stored K n count
 
 -- THE STEP
 
--- the clock in the frame
-abbrev pub clock_in : State → List ℕ → List ℕ
-clock_in s f = drop (report_size s.panelled + 2) f
-
 module _ {m : Limits} (up : NoLarger m limits) {s : State} (b : Bounded m s) (j : ℕ) (there : j < s.stations) (room : s.events < m.events) where
   bounded-more : Bounded m (after_event s j)
   bounded-more = record {
@@ -232,48 +211,25 @@ module _ {m : Limits} (up : NoLarger m limits) {s : State} (b : Bounded m s) (j 
         rw (z, get_or-set_same s.counts j (get_or s.counts j 0 + 1) 0 (omega (arith, b.eight, b.few_stations, up.stations))) (omega (arith, b.each j))
     case i false q = rw (get_or-set_other s.counts j i (get_or s.counts j 0 + 1) 0 (eqb-false i j q)) (omega (arith, b.each i))
 
-  module _ (f t : List ℕ) (formed : event_form s.panelled s.stations (drop 1 f) ≡ true) (is : j ≡ get_or f 1 0) where
-    clock-long : length (clock_in s f) ≡ s.stations
-    clock-long = omega (arith, form_there s.panelled s.stations f formed, length-drop (report_size s.panelled + 2) f)
-
-    -- the event that the definition reads
-    station_same : station_of (drop 1 f) ≡ j
-    station_same = get_or-drop 1 f 0 0 ∙ sym is
-
-    clock_same : (r : Reading) → s.panelled ≡ r.panelled → (event_of r.panelled (drop 1 f)).clock ≡ (clock_in s f)
-    clock_same r e =
-        let i : 1 + (1 + report_size r.panelled) ≡ report_size s.panelled + 2 = omega (arith, ap report_size e) in
-        drop-drop (1 + report_size r.panelled) 1 f ∙ ap (λ (i : ℕ). drop i f) i
-
-    report_same : (r : Reading) → s.panelled ≡ r.panelled → report_of s.panelled (drop 2 f) ≡ (event_of r.panelled (drop 1 f)).report
-    report_same r e = ap₂ report_of e (sym (drop-drop 1 1 f))
-
-    -- what the code's test of the clock v says
-    pub tested : (x : Bool) (v : List ℕ) → v ≡ clock_in s f → ((K : Computation) → Stored K (length v) s.counts t → x ≡ clock_ok K j v)
-        → (r : Reading) → Represents r s t → clock_ok r.computation (station_of (drop 1 f)) (event_of r.panelled (drop 1 f)).clock ≡ x
-    tested x v d e r h =
-        let n : length v ≡ s.stations = ap length d ∙ clock-long in
-        rw (station_same, clock_same r h.panelled, ← d) (sym (e r.computation (rw n h.stored)))
-
-    goes : placed m s ≡ true → {r : Reading} (g : Frame 0x20 r s f t) (s' : State) (t' : List ℕ) → length t ≡ store_size
-        → clock_ok r.computation (station_of (drop 1 f)) (event_of r.panelled (drop 1 f)).clock ≡ true
-        → s' ≡ after_event s j → t' ≡ put_of t (slot j (get_or s.counts j 0 + 1)) (report_bytes s.panelled (drop 2 f) ++ (clock_in s f)) → Goes m r f s' t'
-    unfolding extended
-    goes p {r} g s' t' long ok e u =
-        let h : Represents r s t = g.holds in
-        let x : Event = event_of r.panelled (drop 1 f) in
+  module _ (f t : List ℕ) (some_bytes : 1 ≤ length f) (kind : get_or f 0 0 ≡ 0x20) (opened : is_open s ≡ true) (none : s.messages ≡ 0) (formed : event_form s.panelled s.stations (drop 1 f) ≡ true) (is : j ≡ get_or f 1 0)
+      (long : length t ≡ store_size) (ok : (K : Computation) → Stored K s.stations s.counts t → true ≡ clock_ok K (get_or f 1 0) (clock_in s f)) where
+    goes : (r : Reading) → Represents r s t → Goes m r f (after_event s j) (put_of t (slot j (get_or s.counts j 0 + 1)) (report_bytes s.panelled (drop 2 f) ++ clock_in s f))
+    unfolding check extended
+    goes r h =
+        let x = event_of r.panelled (drop 1 f) in
         let i : j < length r.computation.events = omega (arith, h.sizes, h.stored.size) in
+        let same : station_of (drop 1 f) ≡ j = get_or-drop 1 f 0 0 ∙ sym is in
         record {
           after = with_event r (drop 1 f);
-          step = clock-right m g p formed ok;
-          frames = ap (λ (x : List ℕ). r.frames ++ (x ∷ [])) (kind-front f 0x20 g.some_bytes g.kind);
-          holds = rw (e, u, station_same) (record {
+          step = placed m f t some_bytes kind opened none room r h ∙ rw (formed, tested s f formed true ok r h);
+          frames = ap (λ (x : List ℕ). r.frames ++ (x ∷ [])) (kind-front f 0x20 some_bytes kind);
+          holds = rw same (record {
             panelled = h.panelled;
-            stored = stored_more h.stored h.sizes (le_trans b.few_stations up.stations) b.eight long j there (λ i. omega (arith, b.each i, up.events)) x (report_bytes s.panelled (drop 2 f) ++ (clock_in s f))
-                (length-append (report_bytes s.panelled (drop 2 f)) (clock_in s f) ∙ omega (arith, length-report s.panelled (drop 2 f), clock-long))
-                (report_back s.panelled (drop 2 f) (clock_in s f) ∙ report_same r h.panelled)
-                (clock_back s.panelled (drop 2 f) (clock_in s f) ∙ sym (clock_same r h.panelled));
-            posted = none-posted _ (empty-list r.computation.messages (omega (arith, h.messages, none-sent m s p)));
+            stored = stored_more h.stored h.sizes (le_trans b.few_stations up.stations) b.eight long j there (λ i. omega (arith, b.each i, up.events)) x (report_bytes s.panelled (drop 2 f) ++ clock_in s f)
+                (length-append (report_bytes s.panelled (drop 2 f)) (clock_in s f) ∙ omega (arith, length-report s.panelled (drop 2 f), clock-long s f formed))
+                (report_back s.panelled (drop 2 f) (clock_in s f) ∙ report_same s f formed r h.panelled)
+                (clock_back s.panelled (drop 2 f) (clock_in s f) ∙ sym (clock_same s f formed r h.panelled));
+            posted = none-posted _ (empty-list r.computation.messages (omega (arith, h.messages)));
             sizes = length-set r.computation.events j _ ∙ h.sizes;
             events = ap (λ (x : ℕ). x + 1) h.events ∙ omega (arith, event_count-extended r.computation j x i);
             messages = h.messages;
@@ -282,9 +238,5 @@ module _ {m : Limits} (up : NoLarger m limits) {s : State} (b : Bounded m s) (j 
         }
 
     -- the frame is admitted
-    pub event-next : placed m s ≡ true → (s' : State) (t' v : List ℕ) → v ≡ clock_in s f → 1 ≤ length f → get_or f 0 0 ≡ 0x20 → length t ≡ store_size
-        → ((r : Reading) → Represents r s t → clock_ok r.computation (station_of (drop 1 f)) (event_of r.panelled (drop 1 f)).clock ≡ true)
-        → s' ≡ after_event s j → t' ≡ put_of t (slot j (get_or s.counts j 0 + 1)) (report_bytes s.panelled (drop 2 f) ++ v)
-        → Admits m s f t (record { step = Next; state = s' }) t'
-    event-next p s' t' v d n k long ok e u =
-        record { bounded = rw e bounded-more; stepped = λ r h. goes p (record { holds = h; some_bytes = n; kind = k }) s' t' long (ok r h) e (rw d at u); unmoved = tt }
+    pub event_next : Admitted m s f t (after_event s j) (put_of t (slot j (get_or s.counts j 0 + 1)) (report_bytes s.panelled (drop 2 f) ++ clock_in s f))
+    event_next = record { bounded = bounded-more; goes = goes }

@@ -1,83 +1,45 @@
 // The event frame.
-ghost use Rattle.std.specs.Prelude.{◌≡◌, ◌&&◌, ◌++◌, ◌+◌, ◌≤◌, ◌<◌, ltb, eqb, length, get_or, drop};
-ghost use Rattle.model.specs.Limits.{limits, store_size};
+ghost use Rattle.std.specs.Prelude.{◌≡◌, ◌+◌, ◌≤◌, ◌<◌, true, length, get_or, drop};
+ghost use Rattle.model.specs.Limits.{limits};
+ghost use Rattle.model.specs.Codes.{kind_byte};
+ghost use Rattle.model.specs.declared.Kind.TheVariants.{Event};
 ghost use Rattle.model.specs.Reading.{report_size, event_form};
 ghost use Rattle.codec.specs.Limits.{NoLarger};
-ghost use Rattle.cells.specs.Put.{put_of};
-ghost use Rattle.table.specs.Table.{slot, report_bytes};
-ghost use Rattle.frame.specs.State.{after_event, Bounded, Admits};
+ghost use Rattle.frame.specs.State.{Bounded, Admits};
 
-use cells::{after, wide};
-use frame::{Admitted, State, Step};
+use frame::State;
+use model::{Fault, Limits};
 use table::clock::clock_ok;
-use table::{put_slot, report_size, slot};
-
-// May an event come: after the header, before any question and any message, and are there fewer than the limits m allow?
-fn in_place(m: model::Limits, s: State) -> bool
-    ensures { result ≡ (ltb 0 s.stations && eqb s.questions 0 && eqb s.messages 0 && ltb s.events m.events) }
-{
-    if s.stations == 0 {
-        return false;
-    }
-    if s.questions != 0 {
-        return false;
-    }
-    if s.messages != 0 {
-        return false;
-    }
-    s.events < m.events
-}
+use table::{Store, put_slot, report_size, slot};
 
 // Has an event its length, and is its station there?
 fn well_formed(s: State, frame: &[u8]) -> bool
-    requires { 1 ≤ length frame.now }
-    ensures { result ≡ event_form s.panelled s.stations (drop 1 frame.now) }
+    requires { (1 ≤ length frame.now) × (s.stations ≤ limits.stations) }
+    ensures value { result ≡ event_form s.panelled s.stations (drop 1 frame.now) }
+    ensures formed { result ≡ true → (length frame.now ≡ report_size s.panelled + 2 + s.stations) × (get_or frame.now 1 0 < s.stations) }
 {
-    let n = s.stations;
     let before = report_size(s.panelled) + 2;
-    if frame.len() < before {
-        return false;
-    }
-    if frame.len() - before != n {
-        return false;
-    }
-    wide(frame[1]) < n
-}
-
-// Puts report and clock of the next event of station j into its slot, and counts it.
-fn add_event(s: State, j: usize, frame: &[u8], clock: &[u8], store: &mut [u8]) -> State
-    requires bounded { Bounded limits s }
-    requires j_lt_stations { (j < s.stations) × (s.events < limits.events) × (report_size s.panelled + 2 ≤ length frame.now) × (length clock.now ≡ s.stations) × (length store.old ≡ store_size) }
-    ensures value { result ≡ after_event s j }
-    ensures store_after { store.new ≡ put_of store.old (slot j (get_or s.counts j 0 + 1)) (report_bytes s.panelled (drop 2 frame.now) ++ clock.now) }
-{
-    let counts = s.counts;
-    let k = wide(counts[j]) + 1;
-    put_slot(frame, 2, s.panelled, clock, store, slot(j, k));
-    s.with_event(j)
+    frame.len() == before + s.stations && usize::from(frame[1]) < s.stations
 }
 
 // Admits an event, within the limits m.
-pub(crate) fn event(m: model::Limits, s: State, frame: &[u8], store: &mut [u8]) -> Admitted
+pub(crate) fn event(m: Limits, s: State, frame: &[u8], store: &mut Store) -> Result<State, Fault>
     requires no_larger { NoLarger m limits × Bounded m s }
-    requires in_bounds { (1 ≤ length frame.now) × (get_or frame.now 0 0 ≡ 32) × (length store.old ≡ store_size) }
+    requires in_bounds { (1 ≤ length frame.now) × (get_or frame.now 0 0 ≡ kind_byte Event) }
     ensures { Admits m s frame.now store.old result store.new }
 {
-    if !in_place(m, s) {
-        return Admitted::faulty(s, model::Fault::Kind);
+    if !s.is_open() || s.messages != 0 || m.events <= s.events {
+        return Err(Fault::Kind);
     }
     if !well_formed(s, frame) {
-        return Admitted::faulty(s, model::Fault::Event);
+        return Err(Fault::Event);
     }
-    let j = wide(frame[1]);
-    let at = report_size(s.panelled) + 2;
-    let counts = s.counts;
-    if !clock_ok(j, after(frame, at), &counts, store) {
-        return Admitted::faulty(s, model::Fault::Clock);
+    let j = usize::from(frame[1]);
+    let clock = &frame[report_size(s.panelled) + 2..];
+    if !clock_ok(j, clock, &s.counts, store) {
+        return Err(Fault::Clock);
     }
-    let next = add_event(s, j, frame, after(frame, at), store);
-    Admitted {
-        step: Step::Next,
-        state: next,
-    }
+    let k = usize::from(s.counts[j]) + 1;
+    put_slot(frame, 2, s.panelled, clock, store, slot(j, k));
+    Ok(s.with_event(j))
 }

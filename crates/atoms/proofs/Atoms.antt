@@ -1,14 +1,16 @@
 -- What is at the front of a token that is no sign and the bytes after it: an atom, or nothing.
-use mathlib.Core.Path.{◌≡◌, refl, sym, ap, ◌∙◌}
+use Rattle.std.specs.Prelude as prelude
+use Rattle.std.specs.Prelude.{Some}
+use mathlib.Core.Path.{◌≡◌, refl, sym, ◌∙◌}
 use mathlib.Core.Bool.{Bool, true, false}
 use mathlib.Core.List.{List, ◌∷◌}
 use mathlib.Core.Option.{none, some}
 use Prim.Native.Nat.{ℕ, suc, ◌<◌, ◌≤◌}
 use native.Mathlib.Omega.{arith}
 use lib.ListN.{length}
-use borrow.Author.Tests.{lt-leb, ne_eqb}
+use borrow.Author.Tests.{lt-leb}
 use Rattle.model.specs.Atom.{Atom, operands, atom_of, sound_atom, askable}
-use Rattle.model.specs.Formula.{sign, token, weigh, sound}
+use Rattle.model.specs.Formula.{token, weigh, sound}
 use Rattle.model.specs.Formula.Formula.{atom}
 use Rattle.model.specs.Rules.{as_true, as_false}
 use Rattle.model.specs.Size.{width, bars, held, slim, narrow}
@@ -16,10 +18,8 @@ use Rattle.model.specs.Forecast.{most_bars}
 use Rattle.lattice.specs.Signed.{normal}
 use Rattle.lattice.proofs.Signed.{workable-atom}
 use Rattle.codec.specs.Formulas.{formulas}
-use Rattle.codec.proofs.Formulas.{formulas-token, formulas-atom, formulas-sign}
+use Rattle.codec.proofs.Formulas.{formulas-token, formulas-atom}
 use Rattle.extents.specs.declared.Figures.{Figures}
-use Rattle.extents.specs.declared.Extent.{Extent}
-use Rattle.extents.specs.declared.Extent.TheVariants.{Narrow}
 use Rattle.extents.specs.Extents.{pairs_of, figures_of, extent_of}
 use Rattle.atoms.specs.Measured.{first, Sized}
 
@@ -27,7 +27,7 @@ use Rattle.atoms.specs.Measured.{first, Sized}
 abbrev one_structure : Figures
 one_structure = record { width = 1; bars = 0; most = 0; held = 1; pairs = 0 }
 
-pub extent-atom : (s : Bool) (a : Atom) → Narrow one_structure ≡ extent_of (normal s (atom a))
+pub extent-atom : (s : Bool) (a : Atom) → Some one_structure ≡ extent_of (normal s (atom a))
 unfolding extent_of figures_of pairs_of as_true as_false narrow slim width bars held most_bars
 extent-atom true a = refl
 extent-atom false a = refl
@@ -38,7 +38,7 @@ module _ (t k : ℕ) (q : List ℕ) (e : operands t ≡ some k) where
   nothing-atom h = rw (formulas-token t q, e, lt-leb k (length q) h)
 
   pub sized-atom :
-      (n : ℕ) (s : Bool) {b w : Bool} {i : Extent}
+      (n : ℕ) (s : Bool) {b w : Bool} {i : prelude.Option Figures}
       → k ≤ length q
       → b ≡ sound_atom n (atom_of t q)
       → w ≡ askable s (atom_of t q)
@@ -58,11 +58,3 @@ module _ (t k : ℕ) (q : List ℕ) (e : operands t ≡ some k) where
         workable = g ∙ sym (workable-atom s (atom_of t q));
         extent = i s (atom_of t q);
       }
-
--- NO ATOM
-
-pub nothing_unknown : (t : ℕ) (q : List ℕ) → operands t ≡ none → (1 < t → t < 7 → ⊥) → first (formulas (t ∷ q)) ≡ none
-unfolding sign first
-nothing_unknown t q e h =
-    ap first (formulas-sign t q e)
-    ∙ simp (ne_eqb t 2 (λ o. h (omega arith) (omega arith)), ne_eqb t 3 (λ o. h (omega arith) (omega arith)), ne_eqb t 4 (λ o. h (omega arith) (omega arith)), ne_eqb t 5 (λ o. h (omega arith) (omega arith)), ne_eqb t 6 (λ o. h (omega arith) (omega arith)))

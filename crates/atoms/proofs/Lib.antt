@@ -1,1 +1,2 @@
 pub mod Atoms
+pub mod Tokens

@@ -1,5 +1,6 @@
 -- What is said of the front of some bytes: that no formula stands there, or the size of the one that does.
-use Rattle.std.specs.Prelude.{ℕ, ◌≤◌, ◌≡◌, Bool, List, [], ◌∷◌, length, drop}
+use Rattle.std.specs.Prelude as prelude
+use Rattle.std.specs.Prelude.{ℕ, ◌≤◌, ◌≡◌, Bool, List, [], ◌∷◌, length, drop, None, Some}
 use Rattle.std.proofs.Math.Option.{Option, none, some}
 use Rattle.model.specs.Formula as model
 use Rattle.model.specs.Formula.{ahead}
@@ -7,8 +8,6 @@ use Rattle.model.specs.Rules.{workable}
 use Rattle.lattice.specs.Signed.{normal}
 use Rattle.codec.specs.Formulas.{formulas}
 use Rattle.atoms.specs.declared.Size.{Size}
-use Rattle.atoms.specs.declared.Front.{Front}
-use Rattle.atoms.specs.declared.Front.TheVariants.{Nothing, Formula}
 use Rattle.extents.specs.Extents.{extent_of}
 
 unfoldable pub first : Option (List model.Formula) → Option model.Formula
@@ -29,6 +28,6 @@ pub record Sized (n : ℕ) (s : Bool) (q : List ℕ) (z : Size) : Type 0 where
   pub workable : z.workable ≡ workable (normal s formula)
   pub extent : z.extent ≡ extent_of (normal s formula)
 
-abbrev pub Measured : ℕ → Bool → List ℕ → Front → Type 0
-Measured n s q Nothing = first (formulas q) ≡ none
-Measured n s q (Formula z) = Sized n s q z
+abbrev pub Measured : ℕ → Bool → List ℕ → prelude.Option Size → Type 0
+Measured n s q None = first (formulas q) ≡ none
+Measured n s q (Some z) = Sized n s q z

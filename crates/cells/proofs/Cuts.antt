@@ -1,16 +1,13 @@
 -- Laws of join and of the test for containment, station by station.
-use mathlib.Core.Path.{◌≡◌, refl, sym, ap}
-use Prim.Native.Nat.{ℕ, zero, suc, ◌+◌, ◌≤◌, ◌<◌, max}
-use native.Mathlib.Nat.{suc_inj, suc-ne-zero, max_comm, zero-max}
-use native.Mathlib.Numerals.{add-one}
-use native.Mathlib.Omega.{arith}
-use mathlib.Core.List.{List, [], ◌∷◌, ◌++◌}
-use mathlib.Core.Bool.{true, false, ◌&&◌}
-use lib.Dec.{leb}
-use lib.ListN.{length, get_or, take, drop, replicate, length-drop}
-use lib.Seq.{slice, slice-cons, slice_empty, get_or-drop}
-use borrow.Author.Tests.{le-leb, lt-leb}
+use Rattle.std.proofs.Common.{◌≡◌, ℕ, zero, suc, ◌+◌, ◌≤◌, ◌<◌, max, Bool, true, false, [], ◌∷◌, length, get_or, take, drop, replicate, refl, sym, ap, ◌∙◌, inl, inr, arith}
+use Rattle.std.proofs.lemmas.List.{ext_get_or, get_or_past, length-take-le, length-drop, get_or-take, get_or-drop, take-take}
+use Rattle.std.proofs.lemmas.Slice.Zip.{length-zip, get_or-zip}
+use Rattle.std.proofs.lemmas.Bool.{cases_lt}
+use Rattle.std.specs.Bool.{MatchBool}
+use Rattle.std.specs.List.{AllWithin, HoldsAt, zip}
+use Rattle.std.proofs.Math.Nat.{max_comm, zero-max}
 use Rattle.model.specs.Cut.{Cut, join, inside}
+use Rattle.lattice.proofs.Cuts.{join-at, length-join, inside_⊑, ⊑-inside}
 
 pub take-join : (n : ℕ) (a b : Cut) → take n (join a b) ≡ join (take n a) (take n b)
 unfolding join
@@ -18,13 +15,6 @@ take-join zero a b = refl
 take-join (suc n) [] b = refl
 take-join (suc n) (x ∷ a) [] = refl
 take-join (suc n) (x ∷ a) (y ∷ b) = ap (λ (l : Cut). max x y ∷ l) (take-join n a b)
-
-pub join-snoc : (a b : Cut) (x y : ℕ) → length a ≡ length b → join (a ++ (x ∷ [])) (b ++ (y ∷ [])) ≡ join a b ++ (max x y ∷ [])
-unfolding join
-join-snoc [] [] x y e = refl
-join-snoc [] (b ∷ bs) x y e = absurd (suc-ne-zero _ (sym e))
-join-snoc (a ∷ aa) [] x y e = absurd (suc-ne-zero _ e)
-join-snoc (a ∷ aa) (b ∷ bs) x y e = ap (λ (l : Cut). max a b ∷ l) (join-snoc aa bs x y (suc_inj e))
 
 pub join-nil : (a : Cut) → join a [] ≡ a
 unfolding join
@@ -58,29 +48,33 @@ join_zeros (suc n) zero b h l = absurd (omega arith)
 join_zeros (suc n) (suc m) [] h l = absurd (omega arith)
 join_zeros (suc n) (suc m) (y ∷ b) h l = rw (zero-max y, join_zeros n m b (omega arith) (omega arith))
 
--- Containment from station j on.
-module _ (a b : Cut) (n j : ℕ) (h : j < n) (ha : n ≤ length a) (hb : n ≤ length b) where
-  inside-here : inside (slice j n a) (slice j n b) ≡ (leb (get_or a j 0) (get_or b j 0) && inside (slice (j + 1) n a) (slice (j + 1) n b))
-  unfolding inside
-  inside-here = rw (slice-cons j n a 0 h ha, slice-cons j n b 0 h hb, add-one j)
+-- A list with the larger count in each cell is the join with the row at a place.
+pub join_row : (t a w : Cut) (at n : ℕ) → length t ≡ n → length a ≡ n → at + n ≤ length w
+    → ((k : ℕ) → k < n → get_or t k 0 ≡ max (get_or a k 0) (get_or w (at + k) 0)) → t ≡ join a (take n (drop at w))
+join_row t a w at n l e b h =
+    let r = take n (drop at w) in
+    let d : length r ≡ n = length-take-le n (drop at w) (omega (arith, length-drop at w)) in
+    ext_get_or 0 t (join a r) (omega (arith, length-join a r))
+    λ j m. omega (arith, h j (omega arith), join-at a r j, get_or-take n (drop at w) j 0 (omega arith), get_or-drop at w j 0)
 
-  inside_fails : get_or b j 0 < get_or a j 0 → inside (slice j n a) (slice j n b) ≡ false
-  inside_fails l = rw (inside-here, lt-leb (get_or a j 0) (get_or b j 0) l)
+-- A cell that is above.
+outside_at : (a b : Cut) (k : ℕ) → get_or b k 0 < get_or a k 0 → false ≡ inside a b
+outside_at a b k h = grind (arith, inside_⊑ a b)
 
-  inside-goes : get_or a j 0 ≤ get_or b j 0 → inside (slice j n a) (slice j n b) ≡ inside (slice (j + 1) n a) (slice (j + 1) n b)
-  inside-goes l = rw (inside-here, le-leb (get_or a j 0) (get_or b j 0) l)
+-- What the walk over two rows side by side says of containment.
+pub inside_all : (a b : Cut) (r : Bool) → length a ≡ length b
+    → MatchBool r (AllWithin (λ p. p.0 ≤ p.1) (zip a b) 0 (length (zip a b))) ((k : ℕ) × (k < length (zip a b)) × HoldsAt (λ p. p.1 < p.0) (zip a b) k)
+    → r ≡ inside a b
+inside_all a b true l h =
+    sym (⊑-inside a b λ k. elim (cases_lt k (length a)) [
+      | inl m ↦ rw (get_or-zip a b k (0, 0) m (omega arith)) at (h k (0, 0) (omega arith) (omega (arith, length-zip a b)))
+      | inr m ↦ omega (arith, get_or_past a k 0 m)
+    ])
+inside_all a b false l (k, m, h) =
+    let n : k < length a = omega (arith, length-zip a b) in
+    let e : get_or b k 0 < get_or a k 0 = rw (get_or-zip a b k (0, 0) n (omega arith)) at (h (0, 0)) in
+    outside_at a b k e
 
-pub inside_end : (a b : Cut) (n : ℕ) → inside (slice n n a) (slice n n b) ≡ true
-unfolding inside
-inside_end a b n = rw (slice_empty n a)
-
--- The same of two cuts at places of longer lists.
-module _ (a b : List ℕ) (i k n j : ℕ) (h : j < n) (ha : i + n ≤ length a) (hb : k + n ≤ length b) where
-  pub at_fails : get_or b (k + j) 0 < get_or a (i + j) 0 → inside (slice j n (drop i a)) (slice j n (drop k b)) ≡ false
-  at_fails l =
-      inside_fails (drop i a) (drop k b) n j h (rw length-drop (omega arith)) (rw length-drop (omega arith)) (rw (get_or-drop i a j 0, get_or-drop k b j 0) l)
-
-  pub at_goes : get_or a (i + j) 0 ≤ get_or b (k + j) 0
-      → inside (slice j n (drop i a)) (slice j n (drop k b)) ≡ inside (slice (j + 1) n (drop i a)) (slice (j + 1) n (drop k b))
-  at_goes l =
-      inside-goes (drop i a) (drop k b) n j h (rw length-drop (omega arith)) (rw length-drop (omega arith)) (rw (get_or-drop i a j 0, get_or-drop k b j 0) l)
+-- The first n counts of a join with more.
+pub join_front : (a r : Cut) (n m : ℕ) → n ≤ m → take n (join a (take m r)) ≡ join (take n a) (take n r)
+join_front a r n m h = take-join n a (take m r) ∙ ap (join (take n a)) (take-take n m r h)

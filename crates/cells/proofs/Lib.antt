@@ -2,4 +2,3 @@
 pub mod Parts
 pub mod Puts
 pub mod Cuts
-pub mod Stores

@@ -6,7 +6,7 @@ use native.Mathlib.Nat.{zero-add, add-zero, suc-add}
 use native.Mathlib.Numerals.{add-one}
 use native.Mathlib.Omega.{arith}
 use mathlib.Core.List.{List, [], ◌∷◌, ◌++◌, append-nil}
-use lib.ListN.{length, get_or, take, drop, set, replicate, length-drop}
+use lib.ListN.{length, get_or, take, drop, set, length-drop}
 use borrow.Rule.Slice.PartMut.{put_mid, Post-is}
 use lib.Seq.{take-nil, take_all, take-take, take_at, drop_at, drop-drop, drop-length, get_or-take, get_or-drop, length-take-le, paste, paste-suc, take-paste, drop-paste}
 use Rattle.model.specs.Frames.{word}
@@ -77,22 +77,3 @@ module _ (d : List ℕ) (at : ℕ) (s : List ℕ) (n : ℕ) (hd : at ≤ length 
   paste_other j (inr h) =
       let e : j + 0 ≡ j = omega arith in
       rw (← e, ← get_or-drop j (paste d at s n) 0 0, ← get_or-drop j d 0 0, paste_behind j h)
-
--- Within one list: what is read next is not written yet.
-pub shift_reads : (w : List ℕ) (from to len i : ℕ) → from + len ≤ length w → to + len ≤ length w → (from + len ≤ to) ⊎ (to ≤ from) → i < len
-    → get_or (drop from w) i 0 ≡ get_or (paste w to (drop from w) i) (from + i) 0
-shift_reads w from to len i h l k g =
-    get_or-drop from w i 0 ∙ sym (paste_other w to (drop from w) i (omega arith) (omega (arith, length-drop from w)) (from + i) (side k))
-  where
-    side : (from + len ≤ to) ⊎ (to ≤ from) → (from + i < to) ⊎ (to + i ≤ from + i)
-    side (inl a) = inl (omega arith)
-    side (inr a) = inr (omega arith)
-
-zeros_drop : (n m : ℕ) → n ≤ m → drop {A = ℕ} n (replicate m 0) ≡ replicate (m - n) 0
-zeros_drop zero m h = let e : m ≡ m - 0 = omega arith in ap (λ (x : ℕ). replicate x 0) e
-zeros_drop (suc n) zero h = absurd (omega arith)
-zeros_drop (suc n) (suc m) h = let e : suc m - suc n ≡ m - n = omega arith in rw e (zeros_drop n m (omega arith))
-
--- What stands behind n cells that were written over eight zeros.
-pub zeros_behind : (s : List ℕ) (n : ℕ) → n ≤ 8 → n ≤ length s → drop n (paste (replicate 8 0) 0 s n) ≡ replicate (8 - n) 0
-zeros_behind s n h l = paste_behind (replicate 8 0) 0 s n (omega arith) l n (omega arith) ∙ zeros_drop n 8 h

@@ -6,7 +6,7 @@ use native.Mathlib.Omega.{arith}
 use native.Mathlib.Nat.{add-zero, zero-add, add_assoc}
 use native.Mathlib.Numerals.{add-one}
 use lib.ListN.{length, take, drop, set, length-append, length-drop, length-set, take-append-drop}
-use lib.Seq.{length-take-le, take_all, take_at, take-suc-set, take-append-le, take-take, drop_at, drop-set-lt, drop-append-add, drop-drop, paste}
+use lib.Seq.{length-take-le, take_all, take_at, take-suc-set, drop_at, drop-set-lt, drop-append-add, drop-drop, paste}
 use Rattle.cells.specs.Put.{put_of}
 
 pub front_length : (d s : List ℕ) (at : ℕ) → at ≤ length d → length (take at d ++ s) ≡ at + length s
@@ -20,11 +20,6 @@ length-put d s at h = simp (length-append, length-drop) (omega (arith, length-ta
 pub take_put : (d s : List ℕ) (at : ℕ) → at ≤ length d → take (at + length s) (put_of d at s) ≡ take at d ++ s
 unfolding put_of
 take_put d s at h = take_at (take at d ++ s) _ (at + length s) (front_length d s at h)
-
-pub take-put-le : (d s : List ℕ) (at n : ℕ) → n ≤ at → at ≤ length d → take n (put_of d at s) ≡ take n d
-take-put-le d s at n l h =
-    sym (take-take n (at + length s) (put_of d at s) (omega arith)) ∙ ap (take n) (take_put d s at h)
-    ∙ take-append-le n (take at d) s (omega (arith, length-take-le at d h)) ∙ take-take n at d l
 
 pub drop-put : (d s : List ℕ) (at : ℕ) → at ≤ length d → drop (at + length s) (put_of d at s) ≡ drop (at + length s) d
 unfolding put_of

@@ -19,14 +19,12 @@ use Rattle.cells.proofs.Puts.{length-put, put-nil, put-put}
 use Rattle.codec.specs.Limits.{Suitable}
 use Rattle.codec.proofs.Lines.{length-line}
 use Rattle.codec.proofs.Sizes.{sizes}
-use Rattle.frame.specs.declared.Admitted.{Admitted}
-use Rattle.frame.specs.declared.Step.{Step}
-use Rattle.frame.specs.declared.Step.TheVariants.{Next, Faulty}
 use Rattle.load.specs.declared.Position.{Position}
-use Rattle.frame.specs.State.{Admits}
+use Rattle.frame.specs.declared.State.{State}
+use Rattle.frame.specs.State.{Admitted, Faulty}
 use Rattle.load.specs.Loading.{first, Sofar}
 use Rattle.codec.specs.Entries.{formed, frames, Formed, entries}
-use Rattle.entries.specs.Entries.{Partly, Entered, Allowed}
+use Rattle.entries.specs.Entries.{Partly, Allowed}
 use Rattle.load.proofs.Loads.{sofar_of, sofar-more, sofar-ends, sofar-first, bounded-fresh, end_empty, end_all}
 use Rattle.codec.proofs.Entries.{Entry, entry_at, taken, entries_end}
 
@@ -63,36 +61,22 @@ module _ {m : Limits} {list t : List ℕ} {p : Position} (w : Partly m list p t)
   left : Sofar m (read_list m list) (frame (take k (drop (p.length + 1) list)) ∷ map frame (entries (drop (p.length + 1 + k) list))) p list t
   left = sofar_of (ap (map frame) here.is) w.sofar
 
-  module _ (f : List ℕ) (same : f ≡ take k (drop (p.length + 1) list)) {a : Admitted} (t' : List ℕ) (d : Admits m p.state f t a t') where
-    tried : Admits m p.state (take k (drop (p.length + 1) list)) t a t'
-    tried = rw same at d
+  module _ {f : List ℕ} (same : f ≡ take k (drop (p.length + 1) list)) (t' : List ℕ) where
+    pub entered_next : {s : State} → Admitted m p.state f t s t' → Partly m list (record { at = p.length + 1 + k; line = p.line + 1; length = p.length + 1 + k; state = s }) t'
+    entered_next d = record {
+      bounded = d.bounded;
+      inside = here.room;
+      low = omega (arith, w.low, here.low);
+      rest_formed = here.rest_formed;
+      sofar = sofar-more t' (rw same at d) (p.length + 1 + k) (p.length + 1 + k) list (taken list p.length k h is here.room) left;
+    }
 
-    pub entered-next : a.step ≡ Next
-        → Entered m Next list p (record { at = p.length + 1 + k; line = p.line + 1; length = p.length + 1 + k; state = a.state }) t'
-    entered-next e = (
-      record {
-        bounded = d.bounded;
-        inside = here.room;
-        low = omega (arith, w.low, here.low);
-        rest_formed = here.rest_formed;
-        sofar = sofar-more t' tried e (p.length + 1 + k) (p.length + 1 + k) list (taken list p.length k h is here.room) left;
-      },
-      omega arith,
-    )
-
-    pub entered-ends : {x : Fault} → a.step ≡ Faulty x → Entered m (Faulty x) list p p t'
-    entered-ends e = (sofar-ends t' tried e left, refl)
+    pub entered_ends : {x : Fault} → Faulty m p.state f t x t' → read_list m list ≡ refused (number x) p.line
+    entered_ends d = sofar-ends t' (rw same at d) left
 
 -- ALL ENTRIES
 pub partly_first : {m : Limits} (list t : List ℕ) → length list ≤ m.list → Formed list → Partly m list first t
 partly_first {m} list t h e = record { bounded = bounded-fresh; inside = omega arith; low = omega arith; rest_formed = e; sofar = sofar-first list t (list-formed m list h e) }
-
-module _ (m : Limits) (s : Step) (list : List ℕ) (p q : Position) (t : List ℕ) (d : Entered m s list p q t) where
-  pub step-next : s ≡ Next → Partly m list q t × (p.length < q.length)
-  step-next e = rw e at d
-
-  pub step_faulty : {x : Fault} → s ≡ Faulty x → read_list m list ≡ refused (number x) p.line
-  step_faulty {x} e = let f : Entered m (Faulty x) list p q t = rw e at d in f.0
 
 module _ {m : Limits} {list t : List ℕ} {p : Position} (w : Partly m list p t) (h : length list ≤ p.length) where
   none_left : Sofar m (read_list m list) [] p list t
@@ -106,36 +90,35 @@ module _ {m : Limits} {list t : List ℕ} {p : Position} (w : Partly m list p t)
 
 -- LINES
 
--- the lines before `at` stand in out up to `end`
-pub record Lined (list out₀ out : List ℕ) (at end : ℕ) : Type 0 where
-  pub inside : at ≤ length list
-  pub rest_formed : Formed (drop at list)
+-- the lines before `rest` stand in out up to `end`
+pub record Lined (list out₀ out rest : List ℕ) (end : ℕ) : Type 0 where
+  pub rest_formed : Formed rest
   pub written : List ℕ
-  pub whole : log_of (entries list) ≡ written ++ log_of (entries (drop at list))
+  pub whole : log_of (entries list) ≡ written ++ log_of (entries rest)
   pub is : out ≡ put_of out₀ 0 written
   pub ends : end ≡ length written
   pub fits : length (log_of (entries list)) ≤ length out₀
 
-pub lined_none : (list out : List ℕ) → Formed list → length (log_of (entries list)) ≤ length out → Lined list out out 0 0
-lined_none list out e h = record { inside = omega arith; rest_formed = e; written = []; whole = refl; is = sym (put-nil out 0); ends = refl; fits = h }
+pub lined_none : (list out : List ℕ) → Formed list → length (log_of (entries list)) ≤ length out → Lined list out out list 0
+lined_none list out e h = record { rest_formed = e; written = []; whole = refl; is = sym (put-nil out 0); ends = refl; fits = h }
 
-module _ {list out₀ out : List ℕ} {at end : ℕ} (w : Lined list out₀ out at end) where
+module _ {list out₀ out rest : List ℕ} {end : ℕ} (w : Lined list out₀ out rest end) where
   within : length w.written ≤ length out₀
-  within = omega (arith, w.fits, ap length w.whole, length-append w.written (log_of (entries (drop at list))))
+  within = omega (arith, w.fits, ap length w.whole, length-append w.written (log_of (entries rest)))
 
   pub lined_length : length out ≡ length out₀
   lined_length = ap length w.is ∙ length-put out₀ w.written 0 (omega (arith, within))
 
-  module _ (h : at < length list) (k : ℕ) (is : k ≡ get_or list at 0) where
-    pub entry : Entry list at k
-    entry = entry_at list at k h is w.rest_formed
+  module _ (h : 0 < length rest) (k : ℕ) (is : k ≡ get_or rest 0 0) where
+    pub entry : Entry rest 0 k
+    entry = entry_at rest 0 k h is w.rest_formed
 
-    more-lines : log_of (entries (drop at list)) ≡ line (take k (drop (at + 1) list)) ++ log_of (entries (drop (at + 1 + k) list))
+    more-lines : log_of (entries rest) ≡ line (take k (drop 1 rest)) ++ log_of (entries (drop (1 + k) rest))
     unfolding log_of
     more-lines = ap log_of entry.is
 
-    size : length (take k (drop (at + 1) list)) ≡ k
-    size = length-take-le k (drop (at + 1) list) (omega (arith, length-drop (at + 1) list, entry.room))
+    size : length (take k (drop 1 rest)) ≡ k
+    size = length-take-le k (drop 1 rest) (omega (arith, length-drop 1 rest, entry.room))
 
     pub room : end + 2 * k + 3 ≤ length out
     room = omega (
@@ -144,31 +127,31 @@ module _ {list out₀ out : List ℕ} {at end : ℕ} (w : Lined list out₀ out 
       w.ends,
       w.fits,
       ap length w.whole,
-      length-append w.written (log_of (entries (drop at list))),
+      length-append w.written (log_of (entries rest)),
       ap length more-lines,
-      length-append (line (take k (drop (at + 1) list))) (log_of (entries (drop (at + 1 + k) list))),
-      length-line (take k (drop (at + 1) list)),
+      length-append (line (take k (drop 1 rest))) (log_of (entries (drop (1 + k) rest))),
+      length-line (take k (drop 1 rest)),
       size,
     )
 
-    pub lined_more : (f : List ℕ) → f ≡ take k (drop (at + 1) list) → (out' : List ℕ) (end' : ℕ) → end' ≡ end + length (line f) → out' ≡ put_of out end (line f) → Lined list out₀ out' (at + 1 + k) end'
-    lined_more f same out' end' e u =
+    pub lined_more : Lined list out₀ (put_of out end (line (take k (drop 1 rest)))) (drop (1 + k) rest) (end + length (line (take k (drop 1 rest))))
+    lined_more =
+        let f = take k (drop 1 rest) in
         let z : end ≡ 0 + length w.written = omega (arith, w.ends) in
         record {
-          inside = entry.room;
           rest_formed = entry.rest_formed;
           written = w.written ++ line f;
-          whole = w.whole ∙ ap (λ (x : List ℕ). w.written ++ x) more-lines ∙ sym (append_assoc w.written (line (take k (drop (at + 1) list))) (log_of (entries (drop (at + 1 + k) list)))) ∙ rw same;
-          is = u ∙ rw (w.is, z) (put-put out₀ w.written (line f) 0 (omega arith));
-          ends = e ∙ omega (arith, w.ends, length-append w.written (line f));
+          whole = w.whole ∙ ap (λ (x : List ℕ). w.written ++ x) more-lines ∙ sym (append_assoc w.written (line f) (log_of (entries (drop (1 + k) rest))));
+          is = rw (w.is, z) (put-put out₀ w.written (line f) 0 (omega arith));
+          ends = omega (arith, w.ends, length-append w.written (line f));
           fits = w.fits;
         }
 
-  pub lined_all : length list ≤ at → (end ≡ length (log_of (entries list))) × (out ≡ put_of out₀ 0 (log_of (entries list)))
+  pub lined_all : length rest ≡ 0 → (end ≡ length (log_of (entries list))) × (out ≡ put_of out₀ 0 (log_of (entries list)))
   unfolding log_of
   lined_all h =
       let z : log_of (entries list) ≡ w.written =
-      w.whole ∙ ap (λ (o : Option (List (List ℕ))). w.written ++ log_of (frames o)) (entries_end list at h) ∙ append-nil w.written in
+      w.whole ∙ ap (λ (o : Option (List (List ℕ))). w.written ++ log_of (frames o)) (entries_end rest 0 (omega arith)) ∙ append-nil w.written in
       (w.ends ∙ ap length (sym z), w.is ∙ ap (put_of out₀ 0) (sym z))
 
 -- THE SIZE
@@ -177,7 +160,3 @@ module _ {m : Limits} (fit : Suitable m) {list : List ℕ} (h : length list ≤ 
   allowed_frames =
       let s = sizes fit a.reading (entries list) (sym (list-formed m list h e) ∙ a.is) in
       (s.0, s.2)
-
--- as the code hands it over
-pub partly_start : {m : Limits} (list t : List ℕ) (p : Position) → p ≡ first → length list ≤ m.list → Formed list → Partly m list p t
-partly_start list t p e h f = rw e (partly_first list t h f)

@@ -1,4 +1,5 @@
 -- The extent of a joined or lifted formula follows from those of its operands.
+use Rattle.std.specs.Prelude.{None, Some}
 use mathlib.Core.Path.{◌≡◌, refl}
 use mathlib.Core.Bool.{Bool, true, false, cond, and-true, and-false}
 use Prim.Native.Nat.{ℕ, suc, ◌+◌, ◌*◌, ◌≤◌, max}
@@ -16,7 +17,6 @@ use Rattle.lattice.proofs.Weights.{weighed, signs_of, weight_true, weight_false,
 use Rattle.lattice.proofs.Held.{five_held}
 use Rattle.lattice.proofs.Rounds.{ceiling-normal}
 use Rattle.extents.specs.declared.Figures.{Figures}
-use Rattle.extents.specs.declared.Extent.TheVariants.{Wide, Narrow}
 use Rattle.extents.specs.Extents.{pairs_of, figures_of, extent_of, bounded, joined, lifted, Small}
 
 -- WHAT AN EXTENT TELLS
@@ -26,20 +26,20 @@ pub record Exact (p : Normal) (g : Figures) : Type 0 where
   pub narrow : narrow p ≡ true
   pub figures : g ≡ figures_of p
 
-pub narrow_of : (p : Normal) (g : Figures) → Narrow g ≡ extent_of p → Exact p g
+pub narrow_of : (p : Normal) (g : Figures) → Some g ≡ extent_of p → Exact p g
 unfolding extent_of
 narrow_of p g e = go (narrow p) refl e
   where
-    go : (k : Bool) → narrow p ≡ k → Narrow g ≡ cond k (Narrow (figures_of p)) Wide → Exact p g
+    go : (k : Bool) → narrow p ≡ k → Some g ≡ cond k (Some (figures_of p)) None → Exact p g
     go true h e = record { narrow = h; figures = cc }
-    go false h e = let z : ◌≡◌ {A = ℕ} 0 1 = cc in absurd (omega arith)
+    go false h e = record { narrow = cc; figures = cc }
 
-pub wide_of : (p : Normal) → Wide ≡ extent_of p → narrow p ≡ false
+pub wide_of : (p : Normal) → None ≡ extent_of p → narrow p ≡ false
 unfolding extent_of
 wide_of p e = go (narrow p) refl e
   where
-    go : (k : Bool) → narrow p ≡ k → Wide ≡ cond k (Narrow (figures_of p)) Wide → narrow p ≡ false
-    go true h e = let z : ◌≡◌ {A = ℕ} 0 1 = cc in absurd (omega arith)
+    go : (k : Bool) → narrow p ≡ k → None ≡ cond k (Some (figures_of p)) None → narrow p ≡ false
+    go true h e = cc
     go false h e = h
 
 -- HOW LARGE FIGURES GET
@@ -65,7 +65,7 @@ pub extent-small : (s : Bool) (f : Formula) → atoms f ≤ 99 → Small (extent
 unfolding extent_of figures_of
 extent-small s f l = go (narrow (normal s f)) refl
   where
-    go : (k : Bool) → narrow (normal s f) ≡ k → Small (cond k (Narrow (figures_of (normal s f))) Wide)
+    go : (k : Bool) → narrow (normal s f) ≡ k → Small (cond k (Some (figures_of (normal s f))) None)
     go true h =
         let p = normal s f in
         record {
@@ -78,28 +78,28 @@ extent-small s f l = go (narrow (normal s f)) refl
 
 -- POSSIBLY, AND NOT POSSIBLY
 
-pub lift_wide : (k : Bool) (p : Normal) → Wide ≡ extent_of p → Wide ≡ extent_of (lifted_form k p)
+pub lift_wide : (k : Bool) (p : Normal) → None ≡ extent_of p → None ≡ extent_of (lifted_form k p)
 unfolding extent_of narrow
 lift_wide true p e = simp (wide_of p e, and-false)
 lift_wide false p e = simp (wide_of p e, and-false)
 
 module _ (p : Normal) (g : Figures) (x : Exact p g) where
-  pub lift_keep : Narrow (lifted g g.width 0) ≡ extent_of (lifted_form true p)
+  pub lift_keep : Some (lifted g g.width 0) ≡ extent_of (lifted_form true p)
   unfolding extent_of figures_of narrow slim width bars most_bars held pairs_of
   lift_keep = rw x.figures (simp (le-leb (width p) 16 (narrow_to p x.narrow).0, x.narrow, zero-max))
 
-  pub lift_bars : Narrow (lifted g 1 g.width) ≡ extent_of (lifted_form false p)
+  pub lift_bars : Some (lifted g 1 g.width) ≡ extent_of (lifted_form false p)
   unfolding extent_of figures_of narrow slim width bars most_bars held pairs_of
   lift_bars = rw x.figures (simp (le-leb (width p) 16 (narrow_to p x.narrow).0, x.narrow))
 
 -- AND, OR
 
-pub join_wide_left : (k : Bool) (p q : Normal) → Wide ≡ extent_of p → Wide ≡ extent_of (joined_form k p q)
+pub join_wide_left : (k : Bool) (p q : Normal) → None ≡ extent_of p → None ≡ extent_of (joined_form k p q)
 unfolding extent_of narrow
 join_wide_left true p q e = simp (wide_of p e, and-false)
 join_wide_left false p q e = simp (wide_of p e, and-false)
 
-pub join_wide_right : (k : Bool) (p q : Normal) → Wide ≡ extent_of q → Wide ≡ extent_of (joined_form k p q)
+pub join_wide_right : (k : Bool) (p q : Normal) → None ≡ extent_of q → None ≡ extent_of (joined_form k p q)
 unfolding extent_of narrow
 join_wide_right true p q e = simp (wide_of q e, and-false)
 join_wide_right false p q e = simp (wide_of q e, and-false)

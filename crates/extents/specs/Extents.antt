@@ -1,12 +1,10 @@
 -- The figures of a formula in negation normal form, while width and bar count are within their limit at every token.
-use Rattle.std.specs.Prelude.{ℕ, ◌+◌, ◌*◌, ◌≤◌, max, cond, ◌&&◌, leb}
+use Rattle.std.specs.Prelude.{ℕ, ◌+◌, ◌*◌, ◌≤◌, max, cond, ◌&&◌, leb, Option, None, Some}
 use Rattle.model.specs.Rules.{Normal}
 use Rattle.model.specs.Rules.Normal.{literal, both, either, possible, impossible}
 use Rattle.model.specs.Size.{width, bars, held, narrow}
 use Rattle.model.specs.Forecast.{most_bars}
 use Rattle.extents.specs.declared.Figures.{Figures}
-use Rattle.extents.specs.declared.Extent.{Extent}
-use Rattle.extents.specs.declared.Extent.TheVariants.{Wide, Narrow}
 
 -- The pairs that the signs joined as "and" intersect if no structure is dropped.
 unfoldable pub pairs_of : Normal → ℕ
@@ -19,12 +17,13 @@ pairs_of (impossible p) = pairs_of p
 unfoldable pub figures_of : Normal → Figures
 figures_of p = record { width = width p; bars = bars p; most = most_bars p; held = held p; pairs = pairs_of p }
 
-unfoldable pub extent_of : Normal → Extent
-extent_of p = cond (narrow p) (Narrow (figures_of p)) Wide
+-- None if width or bar count is over its limit at some token.
+unfoldable pub extent_of : Normal → Option Figures
+extent_of p = cond (narrow p) (Some (figures_of p)) None
 
 -- Figures, if width and bar count are at most 16.
-unfoldable pub bounded : Figures → Extent
-bounded g = cond (leb g.width 16 && leb g.bars 16) (Narrow g) Wide
+unfoldable pub bounded : Figures → Option Figures
+bounded g = cond (leb g.width 16 && leb g.bars 16) (Some g) None
 
 -- Two operands joined to a width and a bar count, with so many pairs intersected.
 abbrev pub joined : Figures → Figures → ℕ → ℕ → ℕ → Figures
@@ -41,6 +40,6 @@ pub record Modest (g : Figures) : Type 0 where
   pub held : g.held ≤ 16 * 99
   pub pairs : g.pairs ≤ 16 * 99
 
-abbrev pub Small : Extent → Type 0
-Small Wide = Unit
-Small (Narrow g) = Modest g
+abbrev pub Small : Option Figures → Type 0
+Small None = Unit
+Small (Some g) = Modest g

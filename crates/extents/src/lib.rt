@@ -17,31 +17,12 @@ pub struct Figures {
     pub pairs: u16,
 }
 
-// Its figures; or width or bar count is over its limit at some token.
-#[derive(Clone, Copy)]
-pub enum Extent {
-    Wide,
-    Narrow(Figures),
-}
-
-// The larger.
-fn larger(a: u16, b: u16) -> u16
-    ensures { result ≡ max a b }
-{
-    if a <= b { b } else { a }
-}
-
 // Figures whose width and bar count are within their limits.
-fn limit(g: Figures) -> Extent
+#[tactic(auto, unfolding(crate::specs::Extents::bounded))]
+fn limit(g: Figures) -> Option<Figures>
     ensures { result ≡ bounded g }
 {
-    if 16 < g.width {
-        return Extent::Wide;
-    }
-    if 16 < g.bars {
-        return Extent::Wide;
-    }
-    Extent::Narrow(g)
+    (g.width <= 16 && g.bars <= 16).then_some(g)
 }
 
 // Two operands joined to a width and a bar count, with so many pairs intersected. Held are the left's structures; the right's, behind
@@ -54,10 +35,10 @@ fn joined(a: Figures, b: Figures, width: u16, bars: u16, pairs: u16) -> Figures
     let right = left + b.held;
     let result = left + b.width + width;
     Figures {
-        width: width,
-        bars: bars,
-        most: larger(bars, larger(a.most, b.most)),
-        held: larger(a.held, larger(right, result)),
+        width,
+        bars,
+        most: bars.max(a.most.max(b.most)),
+        held: a.held.max(right.max(result)),
         pairs: a.pairs + b.pairs + pairs,
     }
 }
@@ -68,47 +49,42 @@ fn lifted(a: Figures, width: u16, bars: u16) -> Figures
     ensures { result ≡ lifted a width bars }
 {
     Figures {
-        width: width,
-        bars: bars,
-        most: larger(bars, a.most),
-        held: larger(a.held, a.width + width),
+        width,
+        bars,
+        most: bars.max(a.most),
+        held: a.held.max(a.width + width),
         pairs: a.pairs,
     }
 }
 
 // "and" multiplies widths, intersects as many pairs, and adds bars; "or" adds widths and keeps the larger bar count.
-pub fn join(a: Extent, b: Extent, pair: bool) -> Extent
+// None: width or bar count is over its limit at some token.
+// By a flag: sign and token say together which it is, and the contract goes by it.
+pub fn join(a: Option<Figures>, b: Option<Figures>, pair: bool) -> Option<Figures>
     requires { Small a × Small b }
     ensures { (p q : Normal) → a ≡ extent_of p → b ≡ extent_of q → result ≡ extent_of (joined_form pair p q) }
 {
-    let Extent::Narrow(x) = a else {
-        return Extent::Wide;
-    };
-    let Extent::Narrow(y) = b else {
-        return Extent::Wide;
-    };
+    let x = a?;
+    let y = b?;
     if pair {
         let w = x.width * y.width;
-        let left = x.bars;
-        let bars = left + y.bars;
-        limit(joined(x, y, w, bars, w))
+        limit(joined(x, y, w, x.bars + y.bars, w))
     } else {
-        limit(joined(x, y, x.width + y.width, larger(x.bars, y.bars), 0))
+        limit(joined(x, y, x.width + y.width, x.bars.max(y.bars), 0))
     }
 }
 
 // Possibly keeps the width and has no bars, not possibly has one structure with a bar for each of the operand's. Neither width nor
 // bar count passes the operand's width, so neither is tested against its limit.
-pub fn lift(a: Extent, keep: bool) -> Extent
+// By a flag: sign and token say together which it is, and the contract goes by it.
+pub fn lift(a: Option<Figures>, keep: bool) -> Option<Figures>
     requires { Small a }
     ensures { (p : Normal) → a ≡ extent_of p → result ≡ extent_of (lifted_form keep p) }
 {
-    let Extent::Narrow(x) = a else {
-        return Extent::Wide;
-    };
-    if keep {
-        Extent::Narrow(lifted(x, x.width, 0))
+    let x = a?;
+    Some(if keep {
+        lifted(x, x.width, 0)
     } else {
-        Extent::Narrow(lifted(x, 1, x.width))
-    }
+        lifted(x, 1, x.width)
+    })
 }

@@ -10,11 +10,12 @@ use borrow.Author.Tests.{eq-eqb, ne_eqb, le-leb, lt-leb, ltb-true, ltb-false}
 use lib.ListN.{length, take, drop, get_or, length-drop, length-replicate, get_or-replicate, get_or-eq_default}
 use lib.Seq.{get_or-drop, get_or-take, length-take-le, drop-drop, ext_get_or}
 use Rattle.model.specs.declared.Limits.{Limits}
+use Rattle.model.specs.declared.Fault.TheVariants.{Kind, Header}
 use Rattle.model.specs.Limits.{limits, stored_report}
 use Rattle.model.specs.Lists.{between}
 use Rattle.model.specs.Cut.{◌!◌, empty}
 use Rattle.model.specs.Computation.{Report, stations, no_report, clock, report}
-use Rattle.model.specs.Reading.{Reading, report_size, report_of, reports_of, header_kind, header_form, opened, with_header, check, admit, admit_header, go, fault}
+use Rattle.model.specs.Reading.{Reading, report_size, report_of, reports_of, header_kind, header_form, opened, with_header, check, admit_header}
 use Rattle.lattice.proofs.Reports.{length-reports, report-at}
 use Rattle.lattice.proofs.Histories.{length-opened, count-opened, event_count-opened}
 use Rattle.codec.specs.Limits.{NoLarger}
@@ -25,77 +26,56 @@ use Rattle.table.proofs.Slots as slots
 use Rattle.table.proofs.Slots.{clock-at, report_back, clock_back}
 use Rattle.table.proofs.Messages.{none-posted}
 use Rattle.frame.specs.declared.State.{State}
-use Rattle.frame.specs.declared.Step.TheVariants.{Next}
-use Rattle.frame.specs.State.{after_header, Bounded, Goes, Admits}
+use Rattle.frame.specs.State.{after_header, Bounded, Represents, Goes, Admitted, Faulty}
 use Rattle.frame.specs.Header.{Headed}
-use Rattle.frame.proofs.Steps.{Frame, kind_header, kind-front, begun-not, begun_yes}
+use Rattle.frame.proofs.Steps.{kind_header, kind-front, begun-not, begun_yes}
 
 -- FORM
 module _ (m : Limits) (p : Bool) (f : List ℕ) where
-  short : length f < 2 → header_form m p (drop 1 f) ≡ false
+  pub short : length f < 2 → header_form m p (drop 1 f) ≡ false
   unfolding header_form
   short h = rw (lt-leb 1 (length (drop 1 f)) (simp length-drop (omega arith)))
 
-  many : m.stations < get_or f 1 0 → header_form m p (drop 1 f) ≡ false
-  unfolding header_form between
-  many h =
-      let g : get_or (drop 1 f) 0 0 ≡ get_or f 1 0 = get_or-drop 1 f 0 0 in
-      rw (g, lt-leb (get_or f 1 0) m.stations h) (simp and-false)
+  second-byte : get_or (drop 1 f) 0 0 ≡ get_or f 1 0
+  second-byte = get_or-drop 1 f 0 0
 
-  none : get_or f 1 0 ≡ 0 → header_form m p (drop 1 f) ≡ false
+  pub none : get_or f 1 0 ≡ 0 → header_form m p (drop 1 f) ≡ false
   unfolding header_form between
-  none h =
-      let g : get_or (drop 1 f) 0 0 ≡ get_or f 1 0 = get_or-drop 1 f 0 0 in
-      rw (g, h) (simp and-false)
+  none h = rw (second-byte, h) (simp and-false)
 
-  uneven : 1 ≤ length f → (length f ≡ get_or f 1 0 * report_size p + 2 → ⊥) → header_form m p (drop 1 f) ≡ false
+  pub many : m.stations < get_or f 1 0 → header_form m p (drop 1 f) ≡ false
+  unfolding header_form between
+  many h = rw (second-byte, lt-leb (get_or f 1 0) m.stations h) (simp and-false)
+
+  pub uneven : 1 ≤ length f → (length f ≡ get_or f 1 0 * report_size p + 2 → ⊥) → header_form m p (drop 1 f) ≡ false
   unfolding header_form
-  uneven l h =
-      let g : get_or (drop 1 f) 0 0 ≡ get_or f 1 0 = get_or-drop 1 f 0 0 in
-      rw (g, ne_eqb (length (drop 1 f)) (1 + get_or f 1 0 * report_size p) (λ e. h (omega (arith, length-drop 1 f)))) (simp and-false)
+  uneven l h = rw (second-byte, ne_eqb (length (drop 1 f)) (1 + get_or f 1 0 * report_size p) (λ e. h (omega (arith, length-drop 1 f)))) (simp and-false)
 
-  even : 0 < get_or f 1 0 → get_or f 1 0 ≤ m.stations → length f ≡ get_or f 1 0 * report_size p + 2 → header_form m p (drop 1 f) ≡ true
+  pub headed : 0 < get_or f 1 0 → get_or f 1 0 ≤ m.stations → length f ≡ get_or f 1 0 * report_size p + 2 → Headed m p f (get_or f 1 0)
   unfolding header_form between
-  even o q h =
-      let g : get_or (drop 1 f) 0 0 ≡ get_or f 1 0 = get_or-drop 1 f 0 0 in
+  headed o q h =
       let l : length (drop 1 f) ≡ 1 + get_or f 1 0 * report_size p = omega (arith, length-drop 1 f) in
-      rw (g, l, le-leb 1 (1 + get_or f 1 0 * report_size p) (omega arith), le-leb 1 (get_or f 1 0) o, le-leb (get_or f 1 0) m.stations q, eq-eqb (1 + get_or f 1 0 * report_size p) (1 + get_or f 1 0 * report_size p) refl)
+      record {
+        few = q;
+        some = o;
+        right = rw (second-byte, l, le-leb 1 (1 + get_or f 1 0 * report_size p) (omega arith), le-leb 1 (get_or f 1 0) o, le-leb (get_or f 1 0) m.stations q, eq-eqb (1 + get_or f 1 0 * report_size p) (1 + get_or f 1 0 * report_size p) refl);
+        is = refl;
+        long = h;
+      }
 
-  refused : header_form m p (drop 1 f) ≡ false → Headed m p f 0
-  refused e = record { few = omega arith; wrong = λ z. e; right = λ z. absurd (omega arith); is = λ z. absurd (omega arith); long = λ z. absurd (omega arith) }
-
-  pub headed-short : length f < 2 → Headed m p f 0
-  headed-short h = refused (short h)
-
-  pub headed_many : {n : ℕ} → n ≡ get_or f 1 0 → m.stations < n → Headed m p f 0
-  headed_many e h = refused (many (omega arith))
-
-  -- w is the bytes of a report.
-  pub headed_uneven : {n w : ℕ} → n ≡ get_or f 1 0 → w ≡ report_size p → 1 ≤ length f → (length f ≡ n * w + 2 → ⊥) → Headed m p f 0
-  headed_uneven e d l h = refused (uneven l (λ z. h (rw (e, d) z)))
-
-  pub headed : {n w : ℕ} → n ≡ get_or f 1 0 → w ≡ report_size p → n ≤ m.stations → length f ≡ n * w + 2 → Headed m p f n
-  headed {n} {w} e d q h =
-      let l : length f ≡ n * report_size p + 2 = rw d at h in
-      record { few = q; wrong = λ z. none (omega arith); right = λ z. even (omega arith) (omega arith) (rw (← e) l); is = λ z. e; long = λ z. l }
+-- what the tests of the form say, one by one
+pub ruleset forms = (short, none, many, uneven, headed)
 
 -- FAULTS
 
-module _ (m : Limits) (p : Bool) {r : Reading} {s : State} {f t : List ℕ} (g : Frame (header_kind p) r s f t) where
-  tried : admit m r f ≡ admit_header m p r (drop 1 f)
-  tried = kind_header m r p f g.some_bytes g.kind
-
-  pub second : (s.stations ≡ 0 → ⊥) → admit m r f ≡ fault 4
+module _ (m : Limits) (p : Bool) {s : State} (f t : List ℕ) (some_bytes : 1 ≤ length f) (kind : get_or f 0 0 ≡ header_kind p) where
+  pub second : (s.stations ≡ 0 → ⊥) → Faulty m s f t Kind t
   unfolding admit_header check
-  second e = tried ∙ rw (begun_yes g.holds e)
+  second e = record { is = λ r h. kind_header m r p f some_bytes kind ∙ rw (begun_yes h e); kept = refl }
 
-  pub misshapen : s.stations ≡ 0 → header_form m p (drop 1 f) ≡ false → admit m r f ≡ fault 5
+  pub misshapen : s.stations ≡ 0 → header_form m p (drop 1 f) ≡ false → Faulty m s f t Header t
   unfolding admit_header check
-  misshapen e w = tried ∙ rw (begun-not g.holds e, w)
-
-  shaped : s.stations ≡ 0 → header_form m p (drop 1 f) ≡ true → admit m r f ≡ go (with_header p r (drop 1 f))
-  unfolding admit_header check
-  shaped e w = tried ∙ rw (begun-not g.holds e, w)
+  misshapen e w = record { is = λ r h. kind_header m r p f some_bytes kind ∙ rw (begun-not h e, w); kept = refl }
 
 -- THE TABLE OF THE FIRST REPORTS
 
@@ -151,16 +131,16 @@ module _ {p : Bool} {f t : List ℕ} {n : ℕ} (few : n ≤ limits.stations) (o 
 
 -- THE STEP
 
-module _ {m : Limits} (up : NoLarger m limits) {s : State} {p : Bool} {f t t' : List ℕ} {n : ℕ} (b : Bounded m s) (d : Headed m p f n) (some : 0 < n) (o : Open p f n t') where
-  goes : {r : Reading} → Frame (header_kind p) r s f t → s.stations ≡ 0 → Goes m r f (after_header s p n) t'
-  unfolding opened
-  goes {r} g e =
-      let i : get_or (drop 1 f) 0 0 ≡ n = get_or-drop 1 f 0 0 ∙ sym (d.is some) in
+module _ {m : Limits} (up : NoLarger m limits) {s : State} {p : Bool} {f t t' : List ℕ} {n : ℕ} (b : Bounded m s) (d : Headed m p f n) (o : Open p f n t') (some_bytes : 1 ≤ length f) (kind : get_or f 0 0 ≡ header_kind p) (e : s.stations ≡ 0) where
+  goes : (r : Reading) → Represents r s t → Goes m r f (after_header s p n) t'
+  unfolding admit_header check opened
+  goes r h =
+      let i : get_or (drop 1 f) 0 0 ≡ n = second-byte m p f ∙ sym d.is in
       let v = reports_of p n (drop 2 f) in
       record {
         after = with_header p r (drop 1 f);
-        step = shaped m p g e (d.right some);
-        frames = ap (λ (x : List ℕ). r.frames ++ (x ∷ [])) (kind-front f (header_kind p) g.some_bytes g.kind);
+        step = kind_header m r p f some_bytes kind ∙ rw (begun-not h e, d.right);
+        frames = ap (λ (x : List ℕ). r.frames ++ (x ∷ [])) (kind-front f (header_kind p) some_bytes kind);
         holds = rw (i, drop-drop 1 1 f) (record {
           panelled = refl;
           stored = stored-first (le_trans d.few up.stations) o;
@@ -168,13 +148,12 @@ module _ {m : Limits} (up : NoLarger m limits) {s : State} {p : Bool} {f t t' : 
           sizes = length-opened v;
           events = sym (event_count-opened v);
           messages = sym (ap length (messages-opened v));
-          questions = g.holds.questions;
+          questions = h.questions;
         });
       }
 
-  pub header_next : 1 ≤ length f → get_or f 0 0 ≡ header_kind p → s.stations ≡ 0 → Admits m s f t (record { step = Next; state = after_header s p n }) t'
-  header_next l k e = record {
+  pub header_next : Admitted m s f t (after_header s p n) t'
+  header_next = record {
     bounded = record { few_stations = d.few; few_events = omega arith; few_messages = omega arith; few_questions = b.few_questions; eight = refl; each = λ j. rw (zero-at j) (omega arith) };
-    stepped = λ r h. goes (record { holds = h; some_bytes = l; kind = k }) e;
-    unmoved = tt;
+    goes = goes;
   }

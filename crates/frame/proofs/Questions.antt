@@ -7,6 +7,9 @@ use Prim.Native.Nat.{ℕ, ◌<◌, ◌≤◌}
 use native.Mathlib.Omega.{arith}
 use lib.ListN.{length, get_or, drop, length-append}
 use Rattle.model.specs.declared.Limits.{Limits}
+use Rattle.model.specs.declared.Fault.{Fault}
+use Rattle.model.specs.declared.Fault.TheVariants.{Kind}
+use Rattle.model.specs.Reply.{number}
 use Rattle.model.specs.Formula.{Formula, formula_of, sound}
 use Rattle.model.specs.Rules.{as_true, workable}
 use Rattle.model.specs.Size.{fits}
@@ -14,9 +17,8 @@ use Rattle.model.specs.Computation.{stations}
 use Rattle.model.specs.Reading.{Reading, with_question, check, asked, admit, admit_question, go, fault}
 use Rattle.query.specs.Judged.{judged, fault_of}
 use Rattle.frame.specs.declared.State.{State}
-use Rattle.frame.specs.declared.Step.TheVariants.{Next}
-use Rattle.frame.specs.State.{after_question, Bounded, Goes, Admits}
-use Rattle.frame.proofs.Steps.{Frame, kind-question, kind-front, begun-not, begun_yes, questions-full, questions-room}
+use Rattle.frame.specs.State.{after_question, Bounded, Represents, Goes, Admitted, Faulty}
+use Rattle.frame.proofs.Steps.{kind-question, kind-front, begun-not, begun_yes, questions-full, questions-room}
 
 -- WHAT IS ASKED
 
@@ -47,51 +49,44 @@ module _ (r : Reading) (q : List ℕ) where
 
 -- FAULTS
 
-module _ (m : Limits) {r : Reading} {s : State} {f t : List ℕ} (g : Frame 0x30 r s f t) where
-  tried : admit m r f ≡ admit_question m r (drop 1 f)
-  tried = kind-question m r f g.some_bytes g.kind
-
-  pub before_header : s.stations ≡ 0 → admit m r f ≡ fault 4
+module _ (m : Limits) {s : State} (f t : List ℕ) (some_bytes : 1 ≤ length f) (kind : get_or f 0 0 ≡ 0x30) where
+  pub before_header : s.stations ≡ 0 → Faulty m s f t Kind t
   unfolding admit_question check
-  before_header e = tried ∙ rw (begun-not g.holds e)
+  before_header e = record { is = λ r h. kind-question m r f some_bytes kind ∙ rw (begun-not h e); kept = refl }
 
-  pub too_many : m.questions ≤ s.questions → admit m r f ≡ fault 4
+  pub too_many : m.questions ≤ s.questions → Faulty m s f t Kind t
   unfolding admit_question check
-  too_many e = tried ∙ rw (questions-full g.holds m e) (simp and-false)
+  too_many e = record { is = λ r h. kind-question m r f some_bytes kind ∙ rw (questions-full h m e) (simp and-false); kept = refl }
 
-  placed : 0 < s.stations → s.questions < m.questions → admit m r f ≡ asked r (drop 1 f) (formula_of (drop 1 f))
-  unfolding admit_question check
-  placed a b = tried ∙ rw (begun_yes g.holds (λ e. omega arith), questions-room g.holds m b)
+  -- the frame is in place
+  module _ (begun : s.stations ≡ 0 → ⊥) (room : s.questions < m.questions) where
+    placed : (r : Reading) → Represents r s t → admit m r f ≡ asked r (drop 1 f) (formula_of (drop 1 f))
+    unfolding admit_question check
+    placed r h = kind-question m r f some_bytes kind ∙ rw (begun_yes h begun, questions-room h m room)
 
-  verdict : (v : Option ℕ) → v ≡ fault_of (judged s.stations (formula_of (drop 1 f))) → fault_of (judged (stations r.computation) (formula_of (drop 1 f))) ≡ v
-  verdict v e = rw g.holds.stored.size (sym e)
+    pub wrong : (x : Fault) → fault_of (judged s.stations (formula_of (drop 1 f))) ≡ some (number x) → Faulty m s f t x t
+    wrong x e = record { is = λ r h. placed r h ∙ asked-wrong r (drop 1 f) (formula_of (drop 1 f)) (number x) (rw h.stored.size e); kept = refl }
 
-  pub wrong : 0 < s.stations → s.questions < m.questions → (k : ℕ) → some k ≡ fault_of (judged s.stations (formula_of (drop 1 f))) → admit m r f ≡ fault k
-  wrong a b k e = placed a b ∙ asked-wrong r (drop 1 f) (formula_of (drop 1 f)) k (verdict (some k) e)
+    goes : fault_of (judged s.stations (formula_of (drop 1 f))) ≡ none → (r : Reading) → Represents r s t → Goes m r f (after_question s) t
+    goes e r h =
+        let k : Asks r (drop 1 f) (formula_of (drop 1 f)) = asked-right r (drop 1 f) (formula_of (drop 1 f)) (rw h.stored.size e) in
+        record {
+          after = with_question r (drop 1 f) k.formula;
+          step = placed r h ∙ k.step;
+          frames = ap (λ (x : List ℕ). r.frames ++ (x ∷ [])) (kind-front f 0x30 some_bytes kind);
+          holds = record {
+            panelled = h.panelled;
+            stored = h.stored;
+            posted = h.posted;
+            sizes = h.sizes;
+            events = h.events;
+            messages = h.messages;
+            questions = omega (arith, h.questions, length-append r.questions (k.formula ∷ []));
+          };
+        }
 
-  goes : 0 < s.stations → s.questions < m.questions → none ≡ fault_of (judged s.stations (formula_of (drop 1 f)))
-      → Goes m r f (after_question s) t
-  goes a b e =
-      let k : Asks r (drop 1 f) (formula_of (drop 1 f)) = asked-right r (drop 1 f) (formula_of (drop 1 f)) (verdict none e) in
-      record {
-        after = with_question r (drop 1 f) k.formula;
-        step = placed a b ∙ k.step;
-        frames = ap (λ (x : List ℕ). r.frames ++ (x ∷ [])) (kind-front f 0x30 g.some_bytes g.kind);
-        holds = record {
-          panelled = g.holds.panelled;
-          stored = g.holds.stored;
-          posted = g.holds.posted;
-          sizes = g.holds.sizes;
-          events = g.holds.events;
-          messages = g.holds.messages;
-          questions = omega (arith, g.holds.questions, length-append r.questions (k.formula ∷ []));
-        };
-      }
-
-pub question-next : {m : Limits} {s : State} {f : List ℕ} (t : List ℕ) → Bounded m s → 1 ≤ length f → get_or f 0 0 ≡ 0x30 → 0 < s.stations → s.questions < m.questions → none ≡ fault_of (judged s.stations (formula_of (drop 1 f)))
-    → Admits m s f t (record { step = Next; state = after_question s }) t
-question-next {m} t b l k n o e = record {
-  bounded = record { few_stations = b.few_stations; few_events = b.few_events; few_messages = b.few_messages; few_questions = omega arith; eight = b.eight; each = b.each };
-  stepped = λ r h. goes m (record { holds = h; some_bytes = l; kind = k }) n o e;
-  unmoved = tt;
-}
+    pub question_next : Bounded m s → fault_of (judged s.stations (formula_of (drop 1 f))) ≡ none → Admitted m s f t (after_question s) t
+    question_next b e = record {
+      bounded = record { few_stations = b.few_stations; few_events = b.few_events; few_messages = b.few_messages; few_questions = omega arith; eight = b.eight; each = b.each };
+      goes = goes e;
+    }

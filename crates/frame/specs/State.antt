@@ -1,5 +1,5 @@
--- The state of reading in code, and one frame's step.
-use Rattle.std.specs.Prelude.{◌≡◌, ℕ, ◌+◌, ◌≤◌, Bool, false, List, [], ◌∷◌, ◌++◌, length, get_or, set}
+-- The state of reading in code, and what trying a frame comes to.
+use Rattle.std.specs.Prelude.{◌≡◌, ℕ, ◌+◌, ◌≤◌, Bool, false, ◌&&◌, ltb, eqb, List, [], ◌∷◌, ◌++◌, length, get_or, set, Result, MatchResult}
 use Rattle.model.specs.declared.Limits.{Limits}
 use Rattle.model.specs.Limits.{limits}
 use Rattle.model.specs.Cut.{empty}
@@ -9,9 +9,6 @@ use Rattle.model.specs.Reply.{number}
 use Rattle.model.specs.declared.Fault.{Fault}
 use Rattle.table.specs.Table.{Stored, Posted}
 use Rattle.frame.specs.declared.State.{State}
-use Rattle.frame.specs.declared.Step.{Step}
-use Rattle.frame.specs.declared.Step.TheVariants.{Next, Faulty}
-use Rattle.frame.specs.declared.Admitted.{Admitted}
 
 -- Nothing has been read.
 abbrev pub fresh : State
@@ -30,13 +27,13 @@ after_message s = record { panelled = s.panelled; stations = s.stations; events 
 abbrev pub after_question : State → State
 after_question s = record { panelled = s.panelled; stations = s.stations; events = s.events; messages = s.messages; questions = s.questions + 1; counts = s.counts }
 
+-- Events and messages may come: after the header, and before any question.
+abbrev pub is_open : State → Bool
+is_open s = ltb 0 s.stations && eqb s.questions 0
+
 -- Where the first question stands among the frames: behind the header, the events and the messages.
 abbrev pub first_question : State → ℕ
 first_question s = s.events + s.messages + 1
-
--- A fault after the state s.
-abbrev pub faulty_at : State → Fault → Admitted
-faulty_at s x = record { step = Faulty x; state = s }
 
 -- The numbers of a state keep the limits m, and no station has more events than there are.
 pub record Bounded (m : Limits) (s : State) : Type 0 where
@@ -64,18 +61,16 @@ pub record Goes (m : Limits) (r : Reading) (f : List ℕ) (s : State) (t : List 
   pub frames : after.frames ≡ r.frames ++ (f ∷ [])
   pub holds : Represents after s t
 
--- What a step says of the frame f after r.
-abbrev pub Stepped : Limits → Step → Reading → List ℕ → State → List ℕ → Type 0
-Stepped m Next r f s t = Goes m r f s t
-Stepped m (Faulty x) r f s t = admit m r f ≡ fault (number x)
+-- The frame f was admitted on state s and store t: s' and t' are those after it.
+pub record Admitted (m : Limits) (s : State) (f t : List ℕ) (s' : State) (t' : List ℕ) : Type 0 where
+  pub bounded : Bounded m s'
+  pub goes : (r : Reading) → Represents r s t → Goes m r f s' t'
 
--- A fault leaves state and store as they were.
-abbrev pub Unmoved : Step → State → List ℕ → State → List ℕ → Type 0
-Unmoved Next s t s' t' = Unit {0}
-Unmoved (Faulty x) s t s' t' = (s' ≡ s) × (t' ≡ t)
+-- It was not, by the fault x; the store is as it was.
+pub record Faulty (m : Limits) (s : State) (f t : List ℕ) (x : Fault) (t' : List ℕ) : Type 0 where
+  pub is : (r : Reading) → Represents r s t → admit m r f ≡ fault (number x)
+  pub kept : t' ≡ t
 
 -- Under the limits m the frame f was tried on state s and store t: a is the answer, t' the store afterwards.
-pub record Admits (m : Limits) (s : State) (f t : List ℕ) (a : Admitted) (t' : List ℕ) : Type 0 where
-  pub bounded : Bounded m a.state
-  pub stepped : (r : Reading) → Represents r s t → Stepped m a.step r f a.state t'
-  pub unmoved : Unmoved a.step s t a.state t'
+abbrev pub Admits : Limits → State → List ℕ → List ℕ → Result State Fault → List ℕ → Type 0
+Admits m s f t a t' = MatchResult a (λ s'. Admitted m s f t s' t') (λ x. Faulty m s f t x t')

@@ -6,7 +6,7 @@ pub mod question;
 
 ghost use Rattle.std.specs.Prelude.{◌≡◌, ◌≤◌, ◌<◌};
 ghost use Rattle.model.specs.Limits.{limits};
-ghost use Rattle.frame.specs.State.{fresh, after_header, after_event, after_message, after_question, first_question, faulty_at, Bounded};
+ghost use Rattle.frame.specs.State.{fresh, after_header, after_event, after_message, after_question, is_open, first_question, Bounded};
 
 // What has been read, in numbers: counts has the events of each station. panelled: the header says that reports carry a panel.
 #[derive(Clone, Copy)]
@@ -39,12 +39,10 @@ impl State {
         ensures { result ≡ after_header self panelled n }
     {
         State {
-            panelled: panelled,
+            panelled,
             stations: n,
-            events: 0,
-            messages: 0,
             questions: self.questions,
-            counts: [0u8; model::Log::STATIONS],
+            ..State::fresh()
         }
     }
 
@@ -55,14 +53,11 @@ impl State {
         ensures { result ≡ after_event self j }
     {
         let mut counts = self.counts;
-        counts[j] = counts[j] + 1;
+        counts[j] += 1;
         State {
-            panelled: self.panelled,
-            stations: self.stations,
             events: self.events + 1,
-            messages: self.messages,
-            questions: self.questions,
-            counts: counts,
+            counts,
+            ..self
         }
     }
 
@@ -71,14 +66,9 @@ impl State {
         requires { self.messages < limits.messages }
         ensures { result ≡ after_message self }
     {
-        let counts = self.counts;
         State {
-            panelled: self.panelled,
-            stations: self.stations,
-            events: self.events,
             messages: self.messages + 1,
-            questions: self.questions,
-            counts: counts,
+            ..self
         }
     }
 
@@ -87,15 +77,17 @@ impl State {
         requires { self.questions < limits.questions }
         ensures { result ≡ after_question self }
     {
-        let counts = self.counts;
         State {
-            panelled: self.panelled,
-            stations: self.stations,
-            events: self.events,
-            messages: self.messages,
             questions: self.questions + 1,
-            counts: counts,
+            ..self
         }
+    }
+
+    // May events and messages come: after the header, and before any question?
+    pub fn is_open(self) -> bool
+        ensures { result ≡ is_open self }
+    {
+        self.stations != 0 && self.questions == 0
     }
 
     // Where the first question stands among the frames.
@@ -104,31 +96,5 @@ impl State {
         ensures { result ≡ first_question self }
     {
         self.events + self.messages + 1
-    }
-}
-
-// Whether a frame was admitted.
-#[derive(Clone, Copy)]
-pub enum Step {
-    Next,
-    Faulty(model::Fault),
-}
-
-// A frame's step, and the state after it.
-#[derive(Clone, Copy)]
-pub struct Admitted {
-    pub step: Step,
-    pub state: State,
-}
-
-impl Admitted {
-    // A fault after the state s, which stays.
-    pub fn faulty(s: State, fault: model::Fault) -> Admitted
-        ensures { result ≡ faulty_at s fault }
-    {
-        Admitted {
-            step: Step::Faulty(fault),
-            state: s,
-        }
     }
 }

@@ -1,58 +1,51 @@
 -- A walk along a frame list: what stands at a place is the length of a frame, the frame, and the list of those after it.
-use mathlib.Core.Path.{◌≡◌, refl, sym, ap, ◌∙◌}
+use mathlib.Core.Path.{◌≡◌, refl, ap, ◌∙◌}
 use mathlib.Core.List.{List, [], ◌∷◌, ◌++◌}
 use Prim.Native.Nat.{ℕ, suc, ◌+◌, ◌-◌, ◌≤◌, ◌<◌}
 use native.Mathlib.Omega.{arith}
-use native.Mathlib.Nat.{add-zero}
 use native.Mathlib.Numerals.{add-one}
-use lib.ListN.{length, take, drop, get_or, length-append, length-drop}
-use lib.Seq.{take_all, take_at, drop_at, drop-cons, drop-drop, get_or-drop}
+use lib.ListN.{length, take, drop, get_or, length-append}
+use lib.Seq.{take_all, take_at, drop_at, drop-cons}
 use Rattle.model.specs.Frames.{list_of}
 use Rattle.frames.specs.Asks.{Indexed, Asks}
 
--- The frame f at a place of a list, and what follows it.
-pub record Here (list : List ℕ) (at : ℕ) (f rest : List ℕ) : Type 0 where
-  pub size : get_or list at 0 ≡ length f
-  pub fits : at + length f + 1 ≤ length list
-  pub part : take (length f) (drop (at + 1) list) ≡ f
-  pub next : drop (at + length f + 1) list ≡ rest
+-- The frame f at the front of a list, and what follows it.
+pub record Here (rest f next : List ℕ) : Type 0 where
+  pub size : get_or rest 0 0 ≡ length f
+  pub fits : length f + 1 ≤ length rest
+  pub part : take (length f) (drop 1 rest) ≡ f
+  pub after : drop (length f + 1) rest ≡ next
 
-here : (list : List ℕ) (at : ℕ) (f rest : List ℕ) → drop at list ≡ length f ∷ (f ++ rest) → Here list at f rest
-here list at f rest e =
-    let behind : drop (at + 1) list ≡ f ++ rest = sym (drop-drop 1 at list) ∙ ap (drop 1) e in
-    let long : length list - at ≡ suc (length (f ++ rest)) = sym (length-drop at list) ∙ ap length e in
-    let order : at + 1 + length f ≡ at + length f + 1 = omega arith in
-    record {
-      size = ap (λ (i : ℕ). get_or list i 0) (sym (add-zero at)) ∙ sym (get_or-drop at list 0 0) ∙ ap (λ (l : List ℕ). get_or l 0 0) e;
-      fits = omega (arith, length-append f rest);
-      part = ap (take (length f)) behind ∙ take_at f rest (length f) refl;
-      next = ap (λ (i : ℕ). drop i list) (sym order) ∙ sym (drop-drop (length f) (at + 1) list) ∙ ap (drop (length f)) behind ∙ drop_at f rest (length f) refl;
-    }
+here : (rest f next : List ℕ) → rest ≡ length f ∷ (f ++ next) → Here rest f next
+here rest f next e = record {
+  size = ap (λ (l : List ℕ). get_or l 0 0) e;
+  fits = omega (arith, ap length e, length-append f next);
+  part = ap (λ (l : List ℕ). take (length f) (drop 1 l)) e ∙ take_at f next (length f) refl;
+  after = rw add-one (ap (drop (suc (length f))) e ∙ drop_at f next (length f) refl);
+}
 
 entry : (fs : List (List ℕ)) (i : ℕ) → i < length fs → list_of (drop i fs) ≡ length (get_or fs i []) ∷ (get_or fs i [] ++ list_of (drop (i + 1) fs))
 unfolding list_of
 entry fs i h = rw (add-one, drop-cons fs i [] h)
 
--- The first i frames of the list end at a place.
-pub record Passed (list : List ℕ) (index at i : ℕ) : Type 0 where
-  pub is : (x : Indexed list index) → drop at list ≡ list_of (drop i x.frames)
+-- What is left of the list behind its first i frames.
+pub record Passed (list : List ℕ) (index : ℕ) (rest : List ℕ) (i : ℕ) : Type 0 where
+  pub is : (x : Indexed list index) → rest ≡ list_of (drop i x.frames)
 
-pub passed_none : (list : List ℕ) (index : ℕ) → Passed list index 0 0
+pub passed_none : (list : List ℕ) (index : ℕ) → Passed list index list 0
 passed_none list index = record { is = λ x. x.is }
 
-module _ {list : List ℕ} {index at i : ℕ} (p : Passed list index at i) where
-  pub reached : (x : Indexed list index) → i ≤ index → Here list at (get_or x.frames i []) (list_of (drop (i + 1) x.frames))
-  reached x h = here list at (get_or x.frames i []) (list_of (drop (i + 1) x.frames)) (p.is x ∙ entry x.frames i (omega (arith, x.there)))
+module _ {list rest : List ℕ} {index i : ℕ} (p : Passed list index rest i) where
+  pub reached : (x : Indexed list index) → i ≤ index → Here rest (get_or x.frames i []) (list_of (drop (i + 1) x.frames))
+  reached x h = here rest (get_or x.frames i []) (list_of (drop (i + 1) x.frames)) (p.is x ∙ entry x.frames i (omega (arith, x.there)))
 
-  pub passed-more : i < index → (k : ℕ) → k ≡ get_or list at 0 → Passed list index (at + k + 1) (i + 1)
-  passed-more h k e = record { is = λ x. let g = reached x (omega arith) in ap (λ (m : ℕ). drop (at + m + 1) list) (e ∙ g.size) ∙ g.next }
+  pub passed-more : i < index → (k : ℕ) → k ≡ get_or rest 0 0 → Passed list index (drop (k + 1) rest) (i + 1)
+  passed-more h k e = record { is = λ x. let g = reached x (omega arith) in ap (λ (m : ℕ). drop (m + 1) rest) (e ∙ g.size) ∙ g.after }
 
-  pub passed_all : i ≤ index → index ≤ i → (k : ℕ) → k ≡ get_or list at 0 → (x : Indexed list index) → take (at + 1 + k - (at + 1)) (drop (at + 1) list) ≡ get_or x.frames index []
-  passed_all h g k e x =
-      let r = reached x h in
-      let same : i ≡ index = omega arith in
-      let size : at + 1 + k - (at + 1) ≡ length (get_or x.frames i []) = omega (arith, r.size) in
-      ap (λ (m : ℕ). take m (drop (at + 1) list)) size ∙ r.part ∙ ap (λ (m : ℕ). get_or x.frames m []) same
+  pub passed_all : i ≡ index → (k : ℕ) → k ≡ get_or rest 0 0 → (x : Indexed list index) → take k (drop 1 rest) ≡ get_or x.frames index []
+  passed_all h k e x =
+      let r = reached x (omega arith) in
+      ap (λ (m : ℕ). take m (drop 1 rest)) (e ∙ r.size) ∙ r.part ∙ ap (λ (m : ℕ). get_or x.frames m []) h
 
 -- A QUESTION
 

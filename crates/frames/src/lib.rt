@@ -4,22 +4,18 @@
 ghost use Rattle.std.specs.Prelude.{◌≡◌, List, [], ℕ, ◌≤◌, ◌<◌, length, get_or};
 ghost use Rattle.frames.specs.Asks.{Indexed, Asks};
 
-use cells::wide;
-
 // The frame at an index of a frame list.
 pub fn frame_at(list: &[u8], index: usize) -> &[u8]
     requires { Indexed list.now index }
     ensures { (x : Indexed list.now index) → result.now ≡ get_or x.frames index [] }
 {
-    let mut at = 0;
-    let mut i = 0;
-    while i < index {
-        at = at + wide(list[at]) + 1;
-        i += 1;
+    let mut rest = list;
+    for _ in 0..index {
+        let size = usize::from(rest[0]);
+        rest = &rest[size + 1..];
     }
-    let from = at + 1;
-    let end = from + wide(list[at]);
-    &list[from..end]
+    let size = usize::from(rest[0]);
+    &rest[1..size + 1]
 }
 
 // The bytes of the question at an index of a frame list that has k bytes.

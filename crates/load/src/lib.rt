@@ -3,12 +3,17 @@
 
 mod lines;
 
-ghost use Rattle.std.specs.Prelude.{◌≡◌, length};
-ghost use Rattle.model.specs.Limits.{limits, store_size};
+ghost use Rattle.std.specs.Prelude.{◌≡◌};
+ghost use Rattle.model.specs.Limits.{limits};
 ghost use Rattle.codec.specs.Limits.{NoLarger};
-ghost use Rattle.load.specs.Loading.{first, refused_at, Left, Loads};
+ghost use Rattle.load.specs.Loading.{first, unread_at, Left, Loads, written, refusal_of};
 
-use frame::{State, Step};
+use frame::State;
+use model::{Fault, Limits, Log, Refusal};
+use table::Store;
+
+// A frame list, as long as the longest.
+pub type List = [u8; Log::LIST];
 
 // Where the next line starts, its number, the length of the frame list so far, and the state.
 #[derive(Clone, Copy)]
@@ -24,65 +29,61 @@ impl Position {
     pub fn first() -> Position
         ensures { result ≡ first }
     {
-        let state = State::fresh();
         Position {
             at: 0,
             line: 1,
             length: 0,
-            state: state,
+            state: State::fresh(),
+        }
+    }
+
+    // A fault of the line here.
+    pub(crate) fn unread(self, fault: Fault) -> Unread
+        ensures { result ≡ unread_at self fault }
+    {
+        Unread {
+            refusal: Refusal {
+                fault,
+                line: self.line,
+            },
+            length: self.length,
         }
     }
 }
 
-// A line's step, and the position after it.
-#[derive(Clone, Copy)]
-pub struct Turn {
-    pub step: Step,
-    pub position: Position,
-}
-
-// Whether a log was accepted.
-#[derive(Clone, Copy)]
-pub enum Acceptance {
-    Accepted,
-    Refused(model::Refusal),
-}
-
-// What loading a log comes to: the state, and the length of the frame list as far as it was read.
+// An accepted log: the state after its last line, and the length of its frame list.
 #[derive(Clone, Copy)]
 pub struct Loaded {
-    pub outcome: Acceptance,
     pub state: State,
     pub length: usize,
 }
 
-impl Loaded {
-    // A refusal, after a frame list of some length.
-    pub fn refused(fault: model::Fault, line: usize, length: usize) -> Loaded
-        ensures { result ≡ refused_at fault line length }
-    {
-        let state = State::fresh();
-        let refusal = model::Refusal {
-            fault: fault,
-            line: line,
-        };
-        Loaded {
-            outcome: Acceptance::Refused(refusal),
-            state: state,
-            length: length,
-        }
+// Why a log is refused, and the length of the frame list as far as it was read.
+#[derive(Clone, Copy)]
+pub struct Unread {
+    pub refusal: Refusal,
+    pub length: usize,
+}
+
+impl From<Unread> for Refusal {
+    ghost from_gives = { refusal_of };
+
+    fn from(unread: Unread) -> Refusal {
+        unread.refusal
     }
 }
 
 // Reads a log into the frame list and the store, within the limits m.
-pub fn load(m: model::Limits, log: &[u8], list: &mut [u8], store: &mut [u8]) -> Loaded
+pub fn load(m: Limits, log: &[u8], list: &mut List, store: &mut Store) -> Result<Loaded, Unread>
     requires no_larger { NoLarger m limits }
-    requires list_len { (length list.old ≡ limits.list) × (length store.old ≡ store_size) }
-    ensures loads { Loads m result.outcome log.now result.state result.length list.new store.new }
-    ensures left { Left result.length list.old store.old list.new store.new }
+    ensures loads { Loads m log.now result list.new store.new }
+    ensures left { Left (written result) list.old list.new }
 {
     if m.bytes < log.len() {
-        return Loaded::refused(model::Fault::LongLog, 0, 0);
+        return Err(Unread {
+            refusal: Fault::LongLog.into(),
+            length: 0,
+        });
     }
     lines::load_lines(m, log, list, store)
 }

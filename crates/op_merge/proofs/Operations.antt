@@ -1,9 +1,8 @@
 -- Laws of Merge: what is handed back and written follows from what reading the two logs comes to. Assumes nothing.
 use mathlib.Core.Path.{◌≡◌, refl, sym, ap, ◌∙◌}
-use mathlib.Core.Bool.{Bool, true, false, ◌||◌}
+use mathlib.Core.Bool.{true, false, ◌||◌}
 use mathlib.Core.List.{List, [], ◌∷◌}
 use Prim.Native.Nat.{ℕ, ◌+◌, ◌<◌, ◌≤◌}
-use native.Mathlib.Omega.{arith}
 use borrow.Author.Tests.{lt-ltb, le-ltb}
 use lib.Dec.{ltb}
 use lib.ListN.{length, take}
@@ -13,24 +12,16 @@ use Rattle.model.specs.Reply.{Reply, gives, refuses}
 use Rattle.model.specs.Operations.{merged_log, too_wide_together, too_many_together, merge_effect, merge_op}
 use Rattle.model.specs.Promise.{Merges}
 use Rattle.codec.proofs.Suited.{suitable}
-use Rattle.codec.proofs.Readings.{log-accepted}
 use Rattle.codec.proofs.MergeLog.{merge_kept}
 use Rattle.cells.specs.Put.{put_of}
 use Rattle.cells.proofs.Puts.{put_front}
 use Rattle.frame.specs.declared.State.{State}
 use Rattle.load.specs.Loading.{Accepts}
-use Rattle.op_merge.specs.Opened.{Opened, Within, Fitting, Merging}
-
--- The first of two tests decides, or the second does.
-pub or-first : (a b : Bool) → a ≡ true → a ≡ (a || b)
-or-first a b e = rw e refl
-
-pub or-second : (a b : Bool) → a ≡ false → b ≡ (a || b)
-or-second a b e = rw e refl
+use Rattle.op_merge.specs.Opened.{Opened, Fitting, Merging}
 
 -- A log that was loaded is opened, with its state and its frame list.
-pub accepts-opened : {log : List ℕ} {s : State} {k : ℕ} {list t : List ℕ} (a : Accepts limits log s k list t) → Opened a.reading s (take k list)
-accepts-opened {log} a = record {
+pub accepts_opened : {log : List ℕ} {s : State} {k : ℕ} {list t : List ℕ} (a : Accepts limits log s k list t) → Opened a.reading s (take k list)
+accepts_opened {log} a = record {
   log = log;
   is = a.is;
   listed = a.listed;
@@ -40,23 +31,9 @@ accepts-opened {log} a = record {
   messages = a.holds.messages;
 }
 
--- What is said of the log that was read is said of the reading.
-module _ {log : List ℕ} {s : State} {k : ℕ} {list t : List ℕ} (a : Accepts limits log s k list t) (out : List ℕ) {reply : Reply} {out' : List ℕ} where
-  pub accepts_read : (x : Reading) → Merging (accepted x) (accepted a.reading) out reply out' → Merging (accepted x) (read_log limits log) out reply out'
-  accepts_read x h = rw a.is h
-
-  pub accepts-first : (y : Result) → Merging (accepted a.reading) y out reply out' → Merging (read_log limits log) y out reply out'
-  accepts-first y h = rw a.is h
-
--- The counts of an accepted log keep the limits.
-pub opened-within : {r : Reading} {s : State} {list : List ℕ} → Opened r s list → Within s
-opened-within {r} o =
-    let law = (log-accepted limits o.log r o.is).lawful in
-    (omega (arith, o.stations, law.few_stations), omega (arith, o.events, law.few_events), omega (arith, o.messages, law.few_messages))
-
 -- TWO ACCEPTED LOGS
 
-module _ {x y : Reading} {s t : State} {list more : List ℕ} (a : Opened x s list) (b : Opened y t more) where
+module _ {x y : Reading} {s t : State} {list more : List ℕ} (a : Opened x s list) (b : Opened y t more) (out : List ℕ) where
   wide_is : too_wide_together limits x y ≡ ltb limits.stations (s.stations + t.stations)
   unfolding too_wide_together
   wide_is = rw (a.stations, b.stations) refl
@@ -65,53 +42,69 @@ module _ {x y : Reading} {s t : State} {list more : List ℕ} (a : Opened x s li
   unfolding too_many_together
   many_is = rw (a.events, b.events, a.messages, b.messages) refl
 
-  -- The tests as they come out.
-  module _ (wide many : Bool) (w : wide ≡ ltb limits.stations (s.stations + t.stations)) (m : many ≡ (ltb limits.events (s.events + t.events) || ltb limits.messages (s.messages + t.messages))) (out : List ℕ) where
-    pub both_wide : wide ≡ true → (reply : Reply) → reply ≡ refuses 17 0 → Merging (accepted x) (accepted y) out reply out
+  pub both_wide : limits.stations < s.stations + t.stations → Merging (accepted x) (accepted y) out (refuses 17 0) out
+  unfolding merge_effect
+  both_wide h = let z = wide_is ∙ lt-ltb limits.stations (s.stations + t.stations) h in (rw z refl, rw z refl)
+
+  module _ (narrow : s.stations + t.stations ≤ limits.stations) where
+    narrow_is : too_wide_together limits x y ≡ false
+    narrow_is = wide_is ∙ le-ltb limits.stations (s.stations + t.stations) narrow
+
+    both_many : too_many_together limits x y ≡ true → Merging (accepted x) (accepted y) out (refuses 18 0) out
     unfolding merge_effect
-    both_wide h reply e = let z = wide_is ∙ sym w ∙ h in (e ∙ rw z refl, rw z refl)
+    both_many i = let z = narrow_is in (rw (z, i) refl, rw (z, i) refl)
 
-    module _ (narrow : wide ≡ false) where
-      pub both_many : many ≡ true → (reply : Reply) → reply ≡ refuses 18 0 → Merging (accepted x) (accepted y) out reply out
-      unfolding merge_effect
-      both_many h reply e =
-          let z = wide_is ∙ sym w ∙ narrow in
-          let i = many_is ∙ sym m ∙ h in
-          (e ∙ rw (z, i) refl, rw (z, i) refl)
+    pub many_events : limits.events < s.events + t.events → Merging (accepted x) (accepted y) out (refuses 18 0) out
+    many_events h = both_many (many_is ∙ rw (lt-ltb limits.events (s.events + t.events) h) refl)
 
-      module _ (few : many ≡ false) where
-        pub both-full : length out < limits.bytes → (reply : Reply) → reply ≡ refuses 12 0 → Merging (accepted x) (accepted y) out reply out
+    module _ (events : s.events + t.events ≤ limits.events) where
+      pub many_messages : limits.messages < s.messages + t.messages → Merging (accepted x) (accepted y) out (refuses 18 0) out
+      many_messages h = both_many (many_is ∙ rw (le-ltb limits.events (s.events + t.events) events, lt-ltb limits.messages (s.messages + t.messages) h) refl)
+
+      module _ (messages : s.messages + t.messages ≤ limits.messages) where
+        few_is : too_many_together limits x y ≡ false
+        few_is = many_is ∙ rw (le-ltb limits.events (s.events + t.events) events, le-ltb limits.messages (s.messages + t.messages) messages) refl
+
+        pub both_full : length out < limits.bytes → Merging (accepted x) (accepted y) out (refuses 12 0) out
         unfolding merge_effect
-        both-full h reply e =
-            let z = wide_is ∙ sym w ∙ narrow in
-            let i = many_is ∙ sym m ∙ few in
-            let o = lt-ltb (length out) limits.bytes h in
-            (e ∙ rw (z, i, o) refl, rw (z, i, o) refl)
+        both_full h = let z = narrow_is in let i = few_is in let o = lt-ltb (length out) limits.bytes h in (rw (z, i, o) refl, rw (z, i, o) refl)
 
-        pub both-fits : Fitting s list t more
-        both-fits = record { first = x; second = y; opens = a; opens_second = b; few_stations = wide_is ∙ sym w ∙ narrow; few_others = many_is ∙ sym m ∙ few }
+        pub both_fits : Fitting s list t more
+        both_fits = record { first = x; second = y; opens = a; opens_second = b; few_stations = narrow_is; few_others = few_is }
 
-        pub both_done : limits.bytes ≤ length out → (k : ℕ) (out' : List ℕ) → (k ≡ length (merged_log x y)) × (out' ≡ put_of out 0 (merged_log x y)) → Merging (accepted x) (accepted y) out (gives (k ∷ [])) out'
+        pub both_done : limits.bytes ≤ length out → {k : ℕ} {out' : List ℕ} → (k ≡ length (merged_log x y)) × (out' ≡ put_of out 0 (merged_log x y)) → Merging (accepted x) (accepted y) out (gives (k ∷ [])) out'
         unfolding merge_effect
-        both_done h k out' (e, u) =
-            let z = wide_is ∙ sym w ∙ narrow in
-            let i = many_is ∙ sym m ∙ few in
+        both_done h (e, u) =
+            let z = narrow_is in
+            let i = few_is in
             let o = le-ltb (length out) limits.bytes h in
             (ap (λ (n : ℕ). gives (n ∷ [])) e ∙ rw (z, i, o) refl, u ∙ put_front out (merged_log x y) ∙ rw (z, i, o) refl)
 
 -- A LOG REFUSED
 
-pub second-refused : (x : Reading) {y : Result} (out : List ℕ) {k n : ℕ} → y ≡ refused k n → Merging (accepted x) y out (refuses k n) out
+second_refused : (x : Reading) {y : Result} (out : List ℕ) {k n : ℕ} → y ≡ refused k n → Merging (accepted x) y out (refuses k n) out
 unfolding merge_effect
-second-refused x out e = (rw e refl, rw e refl)
+second_refused x out e = (rw e refl, rw e refl)
 
-pub first-refused : {x : Result} (y : Result) (out : List ℕ) {k n : ℕ} → x ≡ refused k n → Merging x y out (refuses k n) out
+first_refused : {x : Result} (y : Result) (out : List ℕ) {k n : ℕ} → x ≡ refused k n → Merging x y out (refuses k n) out
 unfolding merge_effect
-first-refused y out e = (rw e refl, rw e refl)
+first_refused y out e = (rw e refl, rw e refl)
 
 -- ALL THAT IS PROMISED: reply, output, and the merged log's meaning
 
-pub merge_met : (first second out : List ℕ) (reply : Reply) (out' : List ℕ) → Merging (read_log limits first) (read_log limits second) out reply out'
-    → (reply ≡ (merge_op limits first second out).reply) × ((out' ≡ (merge_op limits first second out).output) × Merges limits first second reply out')
-unfolding merge_op
-merge_met first second out reply out' (e, u) = (e, (u, rw (e, u) (merge_kept suitable first second out)))
+abbrev pub MergeMet : List ℕ → List ℕ → List ℕ → Reply → List ℕ → Type 0
+MergeMet first second out reply out' = (reply ≡ (merge_op limits first second out).reply) × ((out' ≡ (merge_op limits first second out).output) × Merges limits first second reply out')
+
+module _ (first second out : List ℕ) where
+  merge_met : {reply : Reply} {out' : List ℕ} → Merging (read_log limits first) (read_log limits second) out reply out' → MergeMet first second out reply out'
+  unfolding merge_op
+  merge_met (e, u) = (e, (u, rw (e, u) (merge_kept suitable first second out)))
+
+  pub met_first_refused : {k n : ℕ} → read_log limits first ≡ refused k n → MergeMet first second out (refuses k n) out
+  met_first_refused e = merge_met (first_refused (read_log limits second) out e)
+
+  pub met_second_refused : {k n : ℕ} (x : Reading) → read_log limits first ≡ accepted x → read_log limits second ≡ refused k n → MergeMet first second out (refuses k n) out
+  met_second_refused x a e = merge_met (rw a (second_refused x out e))
+
+  pub met : (x y : Reading) → read_log limits first ≡ accepted x → read_log limits second ≡ accepted y → {reply : Reply} {out' : List ℕ} → Merging (accepted x) (accepted y) out reply out' → MergeMet first second out reply out'
+  met x y a b h = merge_met (rw (a, b) h)

@@ -1,21 +1,19 @@
 -- Laws of Read and Write: what is handed back and written follows from what the reading comes to. Assumes nothing.
 use mathlib.Core.Path.{◌≡◌, sym, ap, ◌∙◌}
-use mathlib.Core.Bool.{Bool, true, false, not, cond}
+use mathlib.Core.Bool.{true, false}
 use mathlib.Core.List.{List, [], ◌∷◌}
 use Prim.Native.Nat.{ℕ, ◌<◌, ◌≤◌}
 use native.Mathlib.Omega.{arith}
-use borrow.Author.Tests.{lt-ltb, le-ltb, leb-true, leb-false, not-true, not-false}
-use lib.Dec.{leb, ltb}
+use borrow.Author.Tests.{lt-ltb, le-ltb}
+use lib.Dec.{ltb}
 use lib.ListN.{length, take}
 use lib.Seq.{length-take-le}
-use Rattle.model.specs.declared.Limits.{Limits}
 use Rattle.model.specs.Limits.{limits}
 use Rattle.model.specs.Frames.{list_of, log_of}
 use Rattle.model.specs.Computation.{stations, event_count}
 use Rattle.model.specs.Reading.{refused, read_log, read_list}
-use Rattle.model.specs.Reply.{Reply, gives, refuses, number}
+use Rattle.model.specs.Reply.{Reply, gives, refuses}
 use Rattle.model.specs.Operations.{read_effect, read_op, write_effect, write_op}
-use Rattle.model.specs.declared.Refusal.{Refusal}
 use Rattle.model.specs.Promise.{Rewritten, Reread}
 use Rattle.codec.proofs.Bytes.{Bytes}
 use Rattle.codec.proofs.Suited.{suitable}
@@ -23,11 +21,9 @@ use Rattle.codec.proofs.Operations.{write_read, read_write}
 use Rattle.cells.specs.Put.{put_of}
 use Rattle.cells.proofs.Puts.{put_front}
 use Rattle.frame.specs.declared.State.{State}
-use Rattle.load.specs.declared.Acceptance.{Acceptance}
-use Rattle.load.specs.declared.Acceptance.TheVariants.{Accepted, Refused}
 use Rattle.load.specs.Loading.{Accepts}
 use Rattle.codec.specs.Entries.{entries}
-use Rattle.entries.specs.Entries.{Allowed, Tried}
+use Rattle.entries.specs.Entries.{Allowed}
 
 -- READ
 
@@ -46,23 +42,19 @@ module _ {log : List ℕ} {s : State} {k : ℕ} {list t : List ℕ} (a : Accepts
   size : length list ≡ limits.list → k ≡ length (list_of a.reading.frames)
   size l = sym (length-take-le k list (omega (arith, a.short))) ∙ ap length a.listed
 
-  -- b is what `put_list` hands back
-  module _ (b : Bool) (is : b ≡ leb limits.list (length out)) (out' : List ℕ) (put : out' ≡ cond (leb limits.list (length out)) (put_of out 0 (take k list)) out) where
-    pub read_no_room : not b ≡ true → ReadMet log out (refuses 12 0) out'
-    unfolding read_op read_effect
-    read_no_room n =
-        let f : leb limits.list (length out) ≡ false = sym is ∙ not-true b n in
-        let h : ltb (length out) limits.list ≡ true = lt-ltb (length out) limits.list (leb-false limits.list (length out) f) in
-        read_met log out (refuses 12 0) out' (rw (a.is, h)) (put ∙ rw (f, a.is, h))
+  pub read_no_room : length out < limits.list → ReadMet log out (refuses 12 0) out
+  unfolding read_op read_effect
+  read_no_room n =
+      let h : ltb (length out) limits.list ≡ true = lt-ltb (length out) limits.list n in
+      read_met log out (refuses 12 0) out (rw (a.is, h)) (rw (a.is, h))
 
-    pub read_done : not b ≡ false → length list ≡ limits.list → ReadMet log out (gives (s.stations ∷ s.events ∷ s.questions ∷ k ∷ [])) out'
-    unfolding read_op read_effect
-    read_done n l =
-        let f : leb limits.list (length out) ≡ true = sym is ∙ not-false b n in
-        let h : ltb (length out) limits.list ≡ false = le-ltb (length out) limits.list (leb-true limits.list (length out) f) in
-        read_met log out (gives (s.stations ∷ s.events ∷ s.questions ∷ k ∷ [])) out'
-        (rw (a.is, h, a.holds.stored.size, a.holds.events, a.holds.questions, size l))
-        (put ∙ rw (f, put_front out (take k list), a.is, h, a.listed))
+  pub read_done : limits.list ≤ length out → length list ≡ limits.list → ReadMet log out (gives (s.stations ∷ s.events ∷ s.questions ∷ k ∷ [])) (put_of out 0 (take k list))
+  unfolding read_op read_effect
+  read_done n l =
+      let h : ltb (length out) limits.list ≡ false = le-ltb (length out) limits.list n in
+      read_met log out (gives (s.stations ∷ s.events ∷ s.questions ∷ k ∷ [])) (put_of out 0 (take k list))
+      (rw (a.is, h, a.holds.stored.size, a.holds.events, a.holds.questions, size l))
+      (put_front out (take k list) ∙ rw (a.is, h, a.listed))
 
 -- WRITE
 
@@ -76,14 +68,6 @@ write_met list out b reply out' e o = (e, (o, λ m g buf h. let x = write_read s
 pub write-refused : (list out : List ℕ) → Bytes list → {k n : ℕ} → read_list limits list ≡ refused k n → WriteMet list out (refuses k n) out
 unfolding write_op write_effect
 write-refused list out b {k} {n} e = write_met list out b (refuses k n) out (rw e) (rw e)
-
--- the two cases of a list that was tried
-module _ (m : Limits) (list : List ℕ) (o : Acceptance) (l : Tried m o list) where
-  pub tried_accepted : o ≡ Accepted → Allowed m list
-  tried_accepted e = rw e at l
-
-  pub tried_refused : {x : Refusal} → o ≡ Refused x → read_list m list ≡ refused (number x.fault) x.line
-  tried_refused e = rw e at l
 
 module _ {list : List ℕ} (a : Allowed limits list) (out : List ℕ) (b : Bytes list) where
   pub write_no_room : length out < limits.bytes → WriteMet list out (refuses 12 0) out

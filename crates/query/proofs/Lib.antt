@@ -1,3 +1,4 @@
+pub mod Ends
 pub mod Formulas
 pub mod Measured
 pub mod Judged

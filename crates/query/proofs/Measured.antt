@@ -1,15 +1,14 @@
 -- What is at the front of a token and the bytes after it, from what is at the front of those bytes: a law for each arity.
+use Rattle.std.specs.Prelude as prelude
 use mathlib.Core.Path.{◌≡◌, refl, sym, ap, ap₂, ◌∙◌}
 use mathlib.Core.Bool.{Bool, true, false, ◌&&◌, beq, not as negated}
 use mathlib.Core.List.{List, [], ◌∷◌}
-use mathlib.Core.Option.{Option, none}
-use Prim.Native.Nat.{ℕ, ◌+◌, ◌<◌, ◌≤◌}
+use mathlib.Core.Option.{none}
+use Prim.Native.Nat.{ℕ, ◌+◌, ◌≤◌}
 use native.Mathlib.Numerals.{add-one}
 use native.Mathlib.Omega.{arith}
-use lib.Dec.{eqb}
-use lib.ListN.{length, drop, get_or, length-drop}
+use lib.ListN.{length, drop, length-drop}
 use lib.Seq.{drop-drop}
-use borrow.Author.Tests.{eqb-true, eqb-false}
 use Rattle.model.specs.Formula.{Formula, ahead, one, two, sign, weigh, tokens, atoms, sound}
 use Rattle.model.specs.Formula.Formula.{not}
 use Rattle.model.specs.Rules.{Normal, workable}
@@ -18,38 +17,15 @@ use Rattle.lattice.proofs.Signed.{normal-not, normal-two, normal-modal, weigh-tw
 use Rattle.codec.specs.Formulas.{formulas}
 use Rattle.codec.proofs.Atoms.{sign-none}
 use Rattle.codec.proofs.Formulas.{formulas-none, formulas-sign, one-ahead, two-ahead}
-use Rattle.extents.specs.declared.Extent.{Extent}
+use Rattle.extents.specs.declared.Figures.{Figures}
 use Rattle.atoms.specs.declared.Size.{Size}
-use Rattle.atoms.specs.declared.Front.{Front}
-use Rattle.atoms.specs.declared.Front.TheVariants.{Nothing, Formula as One}
 use Rattle.extents.specs.Extents.{extent_of}
-use Rattle.atoms.specs.Measured.{first, Sized, Measured}
-use Rattle.query.specs.Sizes.{Short, Brief, Longer, Together}
+use Rattle.atoms.specs.Measured.{first, Sized}
+use Rattle.query.specs.Sizes.{Short, Longer, Together, modal_byte, pair_byte}
 use Rattle.extents.proofs.Extents.{extent-small}
 use Rattle.query.proofs.Formulas.{one-first, two-first, two-second}
 
 -- TOKENS
-
--- Bytes that are not empty are their token and what is after it.
-pub token-rest : (q r : List ℕ) → (length q ≡ 0 → ⊥) → r ≡ drop 1 q → q ≡ get_or q 0 0 ∷ r
-token-rest [] r h e = absurd (h refl)
-token-rest (t ∷ q) r h e = ap (λ (l : List ℕ). t ∷ l) (sym e)
-
-sign-two : (t : ℕ) (o : Option (List Formula)) → 2 < t → t < 5 → sign t o ≡ two (joining (eqb t 3)) o
-unfolding sign
-sign-two t o h l = go (eqb t 3) refl
-  where
-    go : (b : Bool) → eqb t 3 ≡ b → sign t o ≡ two (joining (eqb t 3)) o
-    go true e = rw (eqb-true t 3 e)
-    go false e = let f : t ≡ 4 = omega (arith, eqb-false t 3 e) in rw f
-
-sign-modal : (t : ℕ) (o : Option (List Formula)) → 4 < t → t < 7 → sign t o ≡ one (modal (eqb t 5)) o
-unfolding sign
-sign-modal t o h l = go (eqb t 5) refl
-  where
-    go : (b : Bool) → eqb t 5 ≡ b → sign t o ≡ one (modal (eqb t 5)) o
-    go true e = rw (eqb-true t 5 e)
-    go false e = let f : t ≡ 6 = omega (arith, eqb-false t 5 e) in rw f
 
 -- COUNTS
 
@@ -77,10 +53,6 @@ sized-short {s = s} h x =
       extent = rw x.extent (extent-small s x.formula (omega (arith, x.atoms)));
     }
 
-pub measured_brief : (n : ℕ) (s : Bool) (q : List ℕ) (p : Front) → length q ≤ 99 → Measured n s q p → Brief p
-measured_brief n s q Nothing h x = tt
-measured_brief n s q (One z) h x = sized-short h x
-
 -- NO TOKEN
 
 pub nothing-empty : (q : List ℕ) → length q ≡ 0 → first (formulas q) ≡ none
@@ -91,7 +63,7 @@ nothing-empty (t ∷ q) h = absurd (omega arith)
 -- ONE OPERAND
 
 sized-one :
-    {n : ℕ} {s o : Bool} {t : ℕ} {q : List ℕ} {z r : Size} {i : Extent} (c : Formula → Formula)
+    {n : ℕ} {s o : Bool} {t : ℕ} {q : List ℕ} {z r : Size} {i : prelude.Option Figures} (c : Formula → Formula)
     → Unary n c
     → formulas (t ∷ q) ≡ one c (formulas q)
     → (x : Sized n o q z)
@@ -126,52 +98,55 @@ sized-not {n} {s} {q} x l =
     let e = normal-not s x.formula in
     sized-one not (unary_not n) (spelt-not q) x (ap workable e) (x.extent ∙ ap extent_of (sym e)) l
 
-module _ (t : ℕ) (h : 4 < t) (l : t < 7) (q : List ℕ) where
-  spelt-modal : formulas (t ∷ q) ≡ one (modal (eqb t 5)) (formulas q)
-  spelt-modal = formulas-sign t q (sign-none t (omega arith) (omega arith)) ∙ sign-modal t (formulas q) h l
+spelt-modal : (b : Bool) (q : List ℕ) → formulas (modal_byte b ∷ q) ≡ one (modal b) (formulas q)
+unfolding sign
+spelt-modal true q = formulas-sign 5 q (sign-none 5 (omega arith) (omega arith))
+spelt-modal false q = formulas-sign 6 q (sign-none 6 (omega arith) (omega arith))
 
-  pub nothing-modal : first (formulas q) ≡ none → first (formulas (t ∷ q)) ≡ none
-  nothing-modal p = ap first spelt-modal ∙ one-first (modal (eqb t 5)) (formulas q) p
+module _ (b : Bool) (q : List ℕ) where
+  pub nothing-modal : first (formulas q) ≡ none → first (formulas (modal_byte b ∷ q)) ≡ none
+  nothing-modal p = ap first (spelt-modal b q) ∙ one-first (modal b) (formulas q) p
 
   pub sized-modal :
-      {n : ℕ} {s : Bool} {z r : Size} {i : Extent}
-      → Sized n (eqb t 5) q z
-      → ((p : Normal) → z.extent ≡ extent_of p → i ≡ extent_of (lifted_form (beq (eqb t 5) s) p))
+      {n : ℕ} {s : Bool} {z r : Size} {i : prelude.Option Figures}
+      → Sized n b q z
+      → ((p : Normal) → z.extent ≡ extent_of p → i ≡ extent_of (lifted_form (beq b s) p))
       → Longer z i r
-      → Sized n s (t ∷ q) r
+      → Sized n s (modal_byte b ∷ q) r
   sized-modal {n} {s} x i k =
-      sized-one (modal (eqb t 5)) (unary_modal n (eqb t 5)) spelt-modal x (workable-modal s (eqb t 5) x.formula)
-      (i (normal (eqb t 5) x.formula) x.extent ∙ ap extent_of (sym (normal-modal s (eqb t 5) x.formula))) k
+      sized-one (modal b) (unary_modal n b) (spelt-modal b q) x (workable-modal s b x.formula)
+      (i (normal b x.formula) x.extent ∙ ap extent_of (sym (normal-modal s b x.formula))) k
 
 -- TWO OPERANDS
 
-module _ (t : ℕ) (h : 2 < t) (l : t < 5) (q : List ℕ) where
-  spelt-two : formulas (t ∷ q) ≡ two (joining (eqb t 3)) (formulas q)
-  spelt-two = formulas-sign t q (sign-none t (omega arith) (omega arith)) ∙ sign-two t (formulas q) h l
+spelt-two : (b : Bool) (q : List ℕ) → formulas (pair_byte b ∷ q) ≡ two (joining b) (formulas q)
+unfolding sign
+spelt-two true q = formulas-sign 3 q (sign-none 3 (omega arith) (omega arith))
+spelt-two false q = formulas-sign 4 q (sign-none 4 (omega arith) (omega arith))
 
-  pub nothing_left : first (formulas q) ≡ none → first (formulas (t ∷ q)) ≡ none
-  nothing_left p = ap first spelt-two ∙ two-first (joining (eqb t 3)) (formulas q) p
+module _ (b : Bool) (q : List ℕ) where
+  pub nothing_left : first (formulas q) ≡ none → first (formulas (pair_byte b ∷ q)) ≡ none
+  nothing_left p = ap first (spelt-two b q) ∙ two-first (joining b) (formulas q) p
 
   module _ {n : ℕ} {s : Bool} {y : Size} (x : Sized n s q y) where
-    pub nothing_right : first (formulas (drop y.used q)) ≡ none → first (formulas (t ∷ q)) ≡ none
+    pub nothing_right : first (formulas (drop y.used q)) ≡ none → first (formulas (pair_byte b ∷ q)) ≡ none
     nothing_right p =
-        ap first (spelt-two ∙ ap (two (joining (eqb t 3))) x.reads) ∙ two-second (joining (eqb t 3)) x.formula _ p
+        ap first (spelt-two b q ∙ ap (two (joining b)) x.reads) ∙ two-second (joining b) x.formula _ p
 
     pub sized-two :
-        {z r : Size} {i : Extent}
+        {z r : Size} {i : prelude.Option Figures}
         → Sized n s (drop y.used q) z
-        → ((p o : Normal) → y.extent ≡ extent_of p → z.extent ≡ extent_of o → i ≡ extent_of (joined_form (beq (eqb t 3) s) p o))
+        → ((p o : Normal) → y.extent ≡ extent_of p → z.extent ≡ extent_of o → i ≡ extent_of (joined_form (beq b s) p o))
         → Together y z i r
-        → Sized n s (t ∷ q) r
+        → Sized n s (pair_byte b ∷ q) r
     sized-two {z} {r} w i k =
-        let b = eqb t 3 in
         let f = x.formula in
         let g = w.formula in
-        let d : drop r.used (t ∷ q) ≡ drop z.used (drop y.used q) = rw (k.used, add-one, drop-drop) in
+        let d : drop r.used (pair_byte b ∷ q) ≡ drop z.used (drop y.used q) = rw (k.used, add-one, drop-drop) in
         record {
           formula = joining b f g;
           reads =
-              spelt-two
+              spelt-two b q
               ∙ ap (two (joining b)) (x.reads ∙ ap (ahead f) w.reads)
               ∙ two-ahead (joining b) f g _
               ∙ ap (λ (p : List ℕ). ahead (joining b f g) (formulas p)) (sym d);

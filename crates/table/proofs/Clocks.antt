@@ -1,14 +1,12 @@
 -- Laws of the clock rule. Assumes nothing.
-use mathlib.Core.Path.{◌≡◌, refl, sym, ap, ◌∙◌}
+use mathlib.Core.Path.{◌≡◌, refl, sym, ◌∙◌}
 use mathlib.Core.Bool.{Bool, true, false, not, ◌&&◌, and-false}
-use mathlib.Core.List.{List, ◌∷◌}
-use Prim.Native.Nat.{ℕ, zero, suc, ◌+◌, ◌-◌, ◌<◌, ◌≤◌}
+use mathlib.Core.List.{List}
+use Prim.Native.Nat.{ℕ, zero, suc, ◌+◌, ◌<◌, ◌≤◌}
 use native.Mathlib.Omega.{arith}
 use native.Mathlib.Numerals.{add-one}
-use native.Mathlib.Nat.{add-zero, sub-zero}
-use lib.Dec.{eqb, leb}
+use lib.Dec.{eqb}
 use lib.ListN.{length, drop, take, get_or}
-use lib.Seq.{drop-cons}
 use borrow.Author.Tests.{eq-eqb, ne_eqb, le-leb, lt-leb, eqb-true, eqb-false, not-true, not-false}
 use Rattle.model.specs.Limits.{stored_report}
 use Rattle.model.specs.Lists.{every}
@@ -28,39 +26,6 @@ every_fails p j (suc n) h e = split (eqb j n) refl (λ l. every_fails p j n l e)
 pub every_more : (p : ℕ → Bool) (j : ℕ) → every j p ≡ true → p j ≡ true → every (j + 1) p ≡ true
 unfolding every
 every_more p j a b = rw (add-one j, a, b)
-
--- one entry of two cuts that stand in longer lists
-front : (t : List ℕ) (at i n : ℕ) → i < n → at + n ≤ length t → take (n - i) (drop (at + i) t) ≡ get_or t (at + i) 0 ∷ take (n - (i + 1)) (drop (at + (i + 1)) t)
-front t at i n h l =
-    let m : n - i ≡ suc (n - (i + 1)) = omega arith in
-    let e : suc (at + i) ≡ at + (i + 1) = omega arith in
-    let d : drop (at + i) t ≡ get_or t (at + i) 0 ∷ drop (at + (i + 1)) t = drop-cons t (at + i) 0 (omega arith) ∙ ap (λ (x : ℕ). get_or t (at + i) 0 ∷ drop x t) e in
-    rw (m, d)
-
-step : (v : List ℕ) (i : ℕ) → i < length v → drop i v ≡ get_or v i 0 ∷ drop (i + 1) v
-step v i h = rw (add-one, drop-cons v i 0 h)
-
--- The loop that tests one cut after another entry: what is left says what the whole says.
-pub record Rest (t v : List ℕ) (at i : ℕ) : Type 0 where
-  pub is : inside (take (length v - i) (drop (at + i) t)) (drop i v) ≡ inside (take (length v) (drop at t)) v
-
-pub rest-start : (t v : List ℕ) (at : ℕ) → Rest t v at 0
-rest-start t v at = record { is = rw (sub-zero (length v), add-zero at) }
-
-module _ {t v : List ℕ} {at i : ℕ} (r : Rest t v at i) where
-  ahead : i < length v → at + length v ≤ length t → inside (take (length v - i) (drop (at + i) t)) (drop i v) ≡ (leb (get_or t (at + i) 0) (get_or v i 0) && inside (take (length v - (i + 1)) (drop (at + (i + 1)) t)) (drop (i + 1) v))
-  unfolding inside
-  ahead h l = rw (front t at i (length v) h l, step v i h)
-
-  pub rest_fails : i < length v → at + length v ≤ length t → get_or v i 0 < get_or t (at + i) 0 → false ≡ inside (take (length v) (drop at t)) v
-  rest_fails h l e = sym (ahead h l ∙ rw (lt-leb (get_or t (at + i) 0) (get_or v i 0) e)) ∙ r.is
-
-  pub rest_more : i < length v → at + length v ≤ length t → get_or t (at + i) 0 ≤ get_or v i 0 → Rest t v at (i + 1)
-  rest_more h l e = record { is = sym (ahead h l ∙ rw (le-leb (get_or t (at + i) 0) (get_or v i 0) e)) ∙ r.is }
-
-  pub rest_end : length v ≤ i → true ≡ inside (take (length v) (drop at t)) v
-  unfolding inside
-  rest_end h = let e : length v - i ≡ 0 = omega arith in sym (rw e) ∙ r.is
 
 -- ONE EVENT: m is the count of station j as the code has it
 module _ {K : Computation} (v : List ℕ) {counts t : List ℕ} (g : Stored K (length v) counts t) (j k m : ℕ) (has : m ≡ get_or counts j 0) where

@@ -21,12 +21,6 @@ use Rattle.table.specs.Table.{slot, Stored, Posted}
 pub there_iff : (j k n c : ℕ) → (ltb j n && leb k c ≡ true) ↔ ((j < n) × (k ≤ c))
 there_iff j k n c = and_iff (ltb j n) (leb k c) (ltb-true j n, lt-ltb j n) (leb_iff k c)
 
-pub station_missing : (j k n c : ℕ) → n ≤ j → false ≡ (ltb j n && leb k c)
-station_missing j k n c h = sym ((false_iff (ltb j n && leb k c)).1 (λ e. omega (arith, ((there_iff j k n c).0 e).0)))
-
-pub station-there : (j k n c y : ℕ) → j < n → y ≡ c → leb k y ≡ (ltb j n && leb k c)
-station-there j k n c y h e = sym (rw (lt-ltb j n h, e))
-
 -- Its slot is one of the table.
 pub in_table : (counts : List ℕ) (j k n : ℕ) (b : Bool) → n ≤ limits.stations → ((i : ℕ) → get_or counts i 0 ≤ limits.events) → b ≡ (ltb j n && leb k (get_or counts j 0)) → not b ≡ false → (j < limits.stations) × (k ≤ limits.events)
 in_table counts j k n b few low e h = let t = (there_iff j k n (get_or counts j 0)).0 (sym e ∙ not-false b h) in (omega (arith, t.0), omega (arith, t.1, low j))

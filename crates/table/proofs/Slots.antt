@@ -3,16 +3,15 @@ use mathlib.Core.Path.{◌≡◌, refl, sym, ap, ◌∙◌}
 use mathlib.Core.Logic.{◌⊎◌, inl, inr}
 use mathlib.Core.List.{List, [], ◌∷◌, ◌++◌}
 use Prim.Native.Nat.{ℕ, ◌+◌, ◌≤◌}
-use native.Mathlib.Nat.{add-zero}
 use native.Mathlib.Omega.{arith}
 use lib.Dec.{ltb}
 use mathlib.Core.Bool.{Bool, true, false}
 use borrow.Author.Tests.{ltb-true, ltb-false}
-use lib.ListN.{length, take, drop, get_or}
+use lib.ListN.{length, take, drop}
 use lib.Seq.{get_or-take, get_or-drop, drop-drop, take-take}
 use Rattle.model.specs.Limits.{limits, stored_report, slot_size}
 use Rattle.model.specs.Frames.{word}
-use Rattle.model.specs.Reading.{report_of}
+use Rattle.model.specs.Reading.{report_of, report_size}
 use Rattle.cells.specs.Put.{put_of}
 use Rattle.cells.proofs.Puts.{put-put}
 use Rattle.cells.proofs.Parts.{drop-take}
@@ -61,12 +60,17 @@ module _ (a : ℕ) (t t' : List ℕ) (e : take slot_size (drop a t') ≡ take sl
       clock-at limits.stations a t' (take slot_size (drop a t)) e n h
       ∙ sym (clock-at limits.stations a t (take slot_size (drop a t)) refl n h)
 
--- The report at a place of a frame, byte by byte.
-pub report-carried : (p : Bool) (f : List ℕ) (a : ℕ) → p ≡ true → (get_or f a 0 ∷ get_or f (a + 1) 0 ∷ get_or f (a + 2) 0 ∷ get_or f (a + 3) 0 ∷ []) ≡ report_bytes p (drop a f)
-report-carried p f a e = rw (e, get_or-drop a f 0 0, get_or-drop a f 1 0, get_or-drop a f 2 0, get_or-drop a f 3 0, add-zero a) refl
-
-pub report_plain : (p : Bool) (f : List ℕ) (a : ℕ) → p ≡ false → (get_or f a 0 ∷ get_or f (a + 1) 0 ∷ 0 ∷ 0 ∷ []) ≡ report_bytes p (drop a f)
-report_plain p f a e = rw (e, get_or-drop a f 0 0, get_or-drop a f 1 0, add-zero a) refl
+-- The report at the front of a frame, and zeros behind it.
+pub report-front : (p : Bool) (f : List ℕ) → report_size p ≤ length f → take (report_size p) f ++ drop (report_size p) (0 ∷ 0 ∷ 0 ∷ 0 ∷ []) ≡ report_bytes p f
+unfolding report_size
+report-front true (a ∷ b ∷ c ∷ d ∷ f) h = refl
+report-front true (a ∷ b ∷ c ∷ []) h = absurd (omega arith)
+report-front true (a ∷ b ∷ []) h = absurd (omega arith)
+report-front true (a ∷ []) h = absurd (omega arith)
+report-front true [] h = absurd (omega arith)
+report-front false (a ∷ b ∷ f) h = refl
+report-front false (a ∷ []) h = absurd (omega arith)
+report-front false [] h = absurd (omega arith)
 
 -- It is put, and a clock behind it.
 pub slot-put : (d x y r b v : List ℕ) (a : ℕ) → a ≤ length d → length b ≡ stored_report → r ≡ b → x ≡ put_of d a r → y ≡ put_of x (a + stored_report) v → y ≡ put_of d a (b ++ v)

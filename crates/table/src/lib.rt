@@ -11,6 +11,9 @@ ghost use Rattle.cells.specs.Put.{put_of};
 ghost use Rattle.table.specs.Table.{slot, report_bytes, message_slot};
 ghost use Rattle.table.specs.Opening.{opening, Open};
 
+// The store.
+pub type Store = [u8; model::Log::STORE];
+
 // Where event k of station j stands.
 pub fn slot(j: usize, k: usize) -> usize
     requires { (j < limits.stations) × (k ≤ limits.events) }
@@ -28,6 +31,7 @@ pub fn message_slot(q: usize) -> usize
 }
 
 // The bytes of a report in a frame: a value's two, and a panel's where it is carried.
+#[tactic(auto, unfolding(model::specs::Reading::report_size))]
 pub fn report_size(panelled: bool) -> usize
     ensures { (result ≡ report_size panelled) × (2 ≤ result) × (result ≤ 4) }
 {
@@ -37,15 +41,11 @@ pub fn report_size(panelled: bool) -> usize
 // The report at `from` of a frame, as the store has it: a panel that is not carried is 0.
 fn report(frame: &[u8], from: usize, panelled: bool) -> [u8; 4]
     requires { from + report_size panelled ≤ length frame.now }
-    ensures { (result ≡ report_bytes panelled (drop from frame.now)) × (length result ≡ stored_report) }
+    ensures { result ≡ report_bytes panelled (drop from frame.now) }
 {
     let mut r = [0u8; model::Log::REPORT];
-    r[0] = frame[from];
-    r[1] = frame[from + 1];
-    if panelled {
-        r[2] = frame[from + 2];
-        r[3] = frame[from + 3];
-    }
+    let size = report_size(panelled);
+    r[..size].copy_from_slice(&frame[from..from + size]);
     r
 }
 
@@ -67,8 +67,8 @@ pub fn put_slot(
 }
 
 // Puts the first slot of station j into the store.
-fn open_station(frame: &[u8], panelled: bool, j: usize, store: &mut [u8])
-    requires { (j < limits.stations) × (j * report_size panelled + 2 + report_size panelled ≤ length frame.now) × (length store.old ≡ store_size) }
+fn open_station(frame: &[u8], panelled: bool, j: usize, store: &mut Store)
+    requires { (j < limits.stations) × (j * report_size panelled + 2 + report_size panelled ≤ length frame.now) }
     ensures { store.new ≡ put_of store.old (slot j 0) (opening panelled frame.now j) }
 {
     let from = j * report_size(panelled) + 2;
@@ -77,13 +77,11 @@ fn open_station(frame: &[u8], panelled: bool, j: usize, store: &mut [u8])
 }
 
 // Puts the first slots of n stations into the store, their reports from a header.
-pub fn open_stations(frame: &[u8], panelled: bool, n: usize, store: &mut [u8])
-    requires { (n ≤ limits.stations) × (length frame.now ≡ n * report_size panelled + 2) × (length store.old ≡ store_size) }
+pub fn open_stations(frame: &[u8], panelled: bool, n: usize, store: &mut Store)
+    requires { (n ≤ limits.stations) × (length frame.now ≡ n * report_size panelled + 2) }
     ensures { Open panelled frame.now n store.new }
 {
-    let mut j = 0;
-    while j < n {
+    for j in 0..n {
         open_station(frame, panelled, j, store);
-        j += 1;
     }
 }

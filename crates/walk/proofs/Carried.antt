@@ -1,18 +1,18 @@
 -- What a walked line brings, for the callers of `walk_line`.
-use Rattle.std.proofs.Common.{◌≡◌, ℕ, ◌+◌, ◌-◌, ◌%◌, ◌≤◌, List, [], ◌∷◌, length, take, drop, sym, ◌∙◌, arith, drop_of_length-le, length-take-le, take-take, eq-eqb, ne_eqb}
+use Rattle.std.proofs.Common.{◌≡◌, ℕ, ◌+◌, ◌-◌, ◌%◌, ◌≤◌, Result, Ok, Err, List, [], ◌∷◌, length, take, drop, sym, ◌∙◌, arith, drop_of_length-le, length-take-le, take-take, eq-eqb, ne_eqb}
 use mathlib.Core.Option.{some}
 use Rattle.model.specs.Lists.{total}
 use Rattle.model.specs.Bytes.{lines_of, frame, bad, carried, items}
 use Rattle.codec.proofs.Cases.{between_in}
 use Rattle.walk.specs.Walked.{Framed, Spoilt, Walked}
-use Rattle.walk.specs.declared.Walk.{Walk}
-use Rattle.walk.specs.declared.Walk.TheVariants.{Frame, Malformed}
+use Rattle.walk.specs.declared.Frame.{Frame}
+use Rattle.walk.specs.declared.Malformed.{Malformed}
 
 -- The two cases of an answer.
-pub walked_frame : {log out : List ℕ} {at k s looks : ℕ} → (r : Walk) → Walked log at r out → r ≡ Frame k s looks → Framed log at k s (at + looks) out
+pub walked_frame : {log out : List ℕ} {at : ℕ} {f : Frame} → (r : Result Frame Malformed) → Walked log at r out → r ≡ Ok f → Framed log at f.length f.sum (at + f.looks) out
 walked_frame r w e = rw e at w
 
-pub walked_malformed : {log : List ℕ} {at looks : ℕ} → (out : List ℕ) (r : Walk) → Walked log at r out → r ≡ Malformed looks → Spoilt log at
+pub walked_malformed : {log : List ℕ} {at : ℕ} {m : Malformed} → (out : List ℕ) (r : Result Frame Malformed) → Walked log at r out → r ≡ Err m → Spoilt log at
 walked_malformed out r w e = rw e at w
 
 module _ {log out : List ℕ} {at k s next : ℕ} (w : Framed log at k s next out) where

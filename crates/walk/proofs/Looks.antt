@@ -1,5 +1,5 @@
 -- The bytes that a walk looks at are the line's own.
-use Rattle.std.proofs.Common.{◌≡◌, ℕ, suc, ◌+◌, ◌*◌, ◌≤◌, Bool, true, false, cond, eqb, List, [], ◌∷◌, length, take, drop, refl, ap, ◌∙◌, arith}
+use Rattle.std.proofs.Common.{◌≡◌, ℕ, suc, ◌+◌, ◌*◌, ◌≤◌, Result, Ok, Err, Bool, true, false, cond, eqb, List, [], ◌∷◌, length, take, drop, refl, ap, ◌∙◌, arith}
 use mathlib.Core.Option.{Option, none, some}
 use Rattle.model.specs.Bytes.{Lines, more, rest, push, lines_of, digit, items}
 use Rattle.model.specs.Looks.{own, well_formed, Looks}
@@ -7,8 +7,8 @@ use Rattle.codec.proofs.Hex.{length-hex, hex-bytes}
 use Rattle.walk.specs.Pairs.{first_digit, joined, pair_of, second, to_tell}
 use Rattle.walk.specs.Walked.{Framed, Spoilt, Walked, looked}
 use Rattle.walk.specs.declared.Pair.TheVariants.{Byte, End}
-use Rattle.walk.specs.declared.Walk.{Walk}
-use Rattle.walk.specs.declared.Walk.TheVariants.{Frame, Malformed}
+use Rattle.walk.specs.declared.Frame.{Frame}
+use Rattle.walk.specs.declared.Malformed.{Malformed}
 use Rattle.walk.proofs.Carried.{length-line}
 use Rattle.walk.proofs.Digits.{digit_no_end}
 use Rattle.walk.proofs.Fronts.{Front, not_end, joined_no_end, pushes}
@@ -78,9 +78,9 @@ unfolding well_formed
 spoilt_form w e = let z : false ≡ true = rw w.is at e in let y : ◌≡◌ {A = ℕ} 0 1 = cc in omega arith
 
 -- What a walk tells, with no more looks than the line has, makes `Looks`.
-pub looks_told : (log out : List ℕ) (at : ℕ) (r : Walk) → Walked log at r out → looked r ≤ own (lines_of (drop at log)) → Looks (lines_of (drop at log)) (looked r)
-looks_told log out at (Frame k s n) w h = record { exact = λ f. omega (arith, w.after, own_framed w); most = h }
-looks_told log out at (Malformed n) w h = record { exact = λ f. absurd (spoilt_form w f); most = h }
+pub looks_told : (log out : List ℕ) (at : ℕ) (r : Result Frame Malformed) → Walked log at r out → looked r ≤ own (lines_of (drop at log)) → Looks (lines_of (drop at log)) (looked r)
+looks_told log out at (Ok f) w h = record { exact = λ f. omega (arith, w.after, own_framed w); most = h }
+looks_told log out at (Err m) w h = record { exact = λ f. absurd (spoilt_form w f); most = h }
 
 -- ---- what `Looks` leaves out, and what it comes to
 own-formed : (ls : Lines) → well_formed (items ls) ≡ true → 1 ≤ own ls

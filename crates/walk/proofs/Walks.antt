@@ -1,5 +1,5 @@
 -- The walk over a line: what holds before each pair, and what each thing that it meets comes to.
-use Rattle.std.proofs.Common.{◌≡◌, ℕ, zero, suc, ◌+◌, ◌-◌, ◌*◌, ◌%◌, ◌<◌, ◌≤◌, List, [], ◌∷◌, ◌++◌, length, take, drop, set, sym, refl, ap, ◌∙◌, append_assoc, append-nil, add-one, arith, length-append, length-drop, length-set, take-append-drop, drop_of_length-le, length-take-le, drop-drop, take-suc-set, drop-set-lt}
+use Rattle.std.proofs.Common.{◌≡◌, ℕ, zero, suc, ◌+◌, ◌-◌, ◌*◌, ◌%◌, ◌<◌, ◌≤◌, Result, Ok, Err, List, [], ◌∷◌, ◌++◌, length, take, drop, set, sym, refl, ap, ◌∙◌, append_assoc, append-nil, add-one, arith, length-append, length-drop, length-set, take-append-drop, drop_of_length-le, length-take-le, drop-drop, take-suc-set, drop-set-lt}
 use mathlib.Core.Option.{some}
 use Rattle.model.specs.Lists.{sum, total}
 use Rattle.model.specs.Bytes.{more, lines_of, bytes}
@@ -7,8 +7,8 @@ use Rattle.lattice.proofs.Sums.{sum-snoc}
 use Rattle.model.specs.Looks.{own, Looks}
 use Rattle.walk.specs.Pairs.{pair_of, to_tell}
 use Rattle.walk.specs.Walked.{Framed, Spoilt, Walked, looked, onto, lead, looks_of}
-use Rattle.walk.specs.declared.Walk.{Walk}
-use Rattle.walk.specs.declared.Walk.TheVariants.{Frame, Malformed}
+use Rattle.walk.specs.declared.Frame.{Frame}
+use Rattle.walk.specs.declared.Malformed.{Malformed}
 use Rattle.cells.specs.Put.{put_of}
 use Rattle.walk.specs.declared.Pair.{Pair}
 use Rattle.walk.specs.declared.Pair.TheVariants.{Byte, End, Broken}
@@ -115,8 +115,15 @@ over : (f t : List ℕ) → 1 ≤ length f → t ≡ [] → Refused f (lines_of 
 unfolding lines_of
 over f t h e = rw e (omega arith)
 
+-- ---- the answers
+abbrev pub frame : ℕ → ℕ → ℕ → Result Frame Malformed
+frame k s n = Ok (record { length = k; sum = s; looks = n })
+
+abbrev pub malformed : ℕ → Result Frame Malformed
+malformed n = Err (record { looks = n })
+
 -- ---- where the walk ends: the looks, what they told, and what it leaves
-abbrev Told : List ℕ → ℕ → List ℕ → Walk → List ℕ → Type 0
+abbrev Told : List ℕ → ℕ → List ℕ → Result Frame Malformed → List ℕ → Type 0
 Told log at out₀ r out = (looked r ≡ looks_of (drop at log)) × (Looks (lines_of (drop at log)) (looked r) × (Walked log at r out × (out ≡ put_of out₀ 0 (lead 100 (drop at log)))))
 
 module _ {log out₀ out : List ℕ} {at k s n i m : ℕ} (w : Walking log at out₀ out k s n i) (c : m ≡ n + to_tell (drop i log)) where
@@ -135,35 +142,35 @@ module _ {log out₀ out : List ℕ} {at k s n i m : ℕ} (w : Walking log at ou
   within-own : m ≤ own (lines_of (drop at log))
   within-own = omega (arith, c, w.count, own-front w.front, length-bytes w, tell_own (drop i log))
 
-  told : lead (100 - k) (drop i log) ≡ [] → (r : Walk) → looked r ≡ m → Walked log at r out → Told log at out₀ r out
+  told : lead (100 - k) (drop i log) ≡ [] → (r : Result Frame Malformed) → looked r ≡ m → Walked log at r out → Told log at out₀ r out
   told e r q x = let l = passed e in (q ∙ sym (looks l), (looks_told log out at r x (rw q within-own), (x, leaves l)))
 
   many : (v : ℕ) → pair_of (drop i log) ≡ Byte v → k ≡ 100 → Spoilt log at
   many v e h = spoilt (pair-more w e) (refused_many (take k out ++ (v ∷ [])) (lines_of (drop (i + 2) log)) (simp length-append (omega (arith, length-bytes w))))
 
-  pub told_many : {v : ℕ} → pair_of (drop i log) ≡ Byte v → k ≡ 100 → Told log at out₀ (Malformed m) out
+  pub told_many : {v : ℕ} → pair_of (drop i log) ≡ Byte v → k ≡ 100 → Told log at out₀ (malformed m) out
   unfolding lead
-  told_many {v} e h = told (rw h) (Malformed m) refl (many v e h)
+  told_many {v} e h = told (rw h) (malformed m) refl (many v e h)
 
   few : pair_of (drop i log) ≡ End → k < 2 → Spoilt log at
   few e h = spoilt w.front (rw (end_at log i e) (refused-few (take k out) (lines_of (drop (i + 1) log)) (omega (arith, length-bytes w))))
 
-  pub told-few : pair_of (drop i log) ≡ End → k < 2 → Told log at out₀ (Malformed m) out
-  told-few e h = told (lead_last (100 - k) (drop i log) End e (λ l. refl)) (Malformed m) refl (few e h)
+  pub told-few : pair_of (drop i log) ≡ End → k < 2 → Told log at out₀ (malformed m) out
+  told-few e h = told (lead_last (100 - k) (drop i log) End e (λ l. refl)) (malformed m) refl (few e h)
 
-  pub told-frame : i < length log → pair_of (drop i log) ≡ End → 2 ≤ k → Told log at out₀ (Frame k s m) out
+  pub told-frame : i < length log → pair_of (drop i log) ≡ End → 2 ≤ k → Told log at out₀ (frame k s m) out
   told-frame h e two =
       let next : i + 1 ≡ at + m = omega (arith, w.place, w.count, c, tell_end (drop i log) e) in
-      told (lead_last (100 - k) (drop i log) End e (λ l. refl)) (Frame k s m) refl (rw next at (framed w h e two))
+      told (lead_last (100 - k) (drop i log) End e (λ l. refl)) (frame k s m) refl (rw next at (framed w h e two))
 
   broken : i < length log → pair_of (drop i log) ≡ Broken → Spoilt log at
   broken h e = spoilt w.front (refused_broken (take k out) (drop i log) (simp length-drop (omega arith)) e)
 
-  pub told_broken : i < length log → pair_of (drop i log) ≡ Broken → Told log at out₀ (Malformed m) out
-  told_broken h e = told (lead_last (100 - k) (drop i log) Broken e (λ l. refl)) (Malformed m) refl (broken h e)
+  pub told_broken : i < length log → pair_of (drop i log) ≡ Broken → Told log at out₀ (malformed m) out
+  told_broken h e = told (lead_last (100 - k) (drop i log) Broken e (λ l. refl)) (malformed m) refl (broken h e)
 
-pub told_over : {log out₀ out : List ℕ} {at k s n i : ℕ} → Walking log at out₀ out k s n i → length log ≤ i → Told log at out₀ (Malformed n) out
+pub told_over : {log out₀ out : List ℕ} {at k s n i : ℕ} → Walking log at out₀ out k s n i → length log ≤ i → Told log at out₀ (malformed n) out
 unfolding pair_of to_tell
 told_over {log} {out = out} {k = k} {n = n} {i = i} w h =
     let z : drop i log ≡ [] = drop_of_length-le log h in
-    told w (rw z (omega arith)) (lead_last (100 - k) (drop i log) Broken (rw z) (λ l. refl)) (Malformed n) refl (spoilt w.front (over (take k out) (drop i log) (omega (arith, length-bytes w, w.starts, w.place)) z))
+    told w (rw z (omega arith)) (lead_last (100 - k) (drop i log) Broken (rw z) (λ l. refl)) (malformed n) refl (spoilt w.front (over (take k out) (drop i log) (omega (arith, length-bytes w, w.starts, w.place)) z))

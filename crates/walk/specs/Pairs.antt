@@ -1,16 +1,15 @@
 -- A digit, and a pair of digits at an even place of a line, as the code names them; how many bytes tell what stands there.
-use Rattle.std.specs.Prelude.{ℕ, suc, ◌+◌, ◌*◌, cond, List, [], ◌∷◌, ◌==◌}
+use Rattle.std.specs.Prelude.{ℕ, suc, ◌+◌, ◌*◌, cond, Some, None, List, [], ◌∷◌, ◌==◌}
 use Rattle.std.proofs.Math.Option.{Option, none, some}
 use Rattle.model.specs.Bytes.{digit}
-use Rattle.walk.specs.declared.Digit.{Digit}
-use Rattle.walk.specs.declared.Digit.TheVariants.{Value, Bad}
+use Rattle.std.specs.Prelude as std
 use Rattle.walk.specs.declared.Pair.{Pair}
 use Rattle.walk.specs.declared.Pair.TheVariants.{Byte, End, Broken}
 
--- The value of each case.
-abbrev pub digit_of : Digit → Option ℕ
-digit_of (Value d) = some d
-digit_of Bad = none
+-- The digit that was read, if it is one.
+abbrev pub digit_of : std.Option ℕ → Option ℕ
+digit_of (Some d) = some d
+digit_of None = none
 
 -- The digit at the front.
 abbrev pub first_digit : List ℕ → Option ℕ

@@ -1,12 +1,12 @@
 -- What a walk over the line that starts at `at` tells.
-use Rattle.std.specs.Prelude.{◌≡◌, ℕ, zero, suc, ◌+◌, ◌*◌, ◌%◌, ◌≤◌, List, [], ◌∷◌, length, take, drop}
+use Rattle.std.specs.Prelude.{◌≡◌, ℕ, zero, suc, ◌+◌, ◌*◌, ◌%◌, ◌≤◌, Result, Ok, Err, List, [], ◌∷◌, length, take, drop}
 use Rattle.std.proofs.Math.Option.{some}
 use Rattle.model.specs.Lists.{total}
 use Rattle.model.specs.Bytes.{more, lines_of, bytes, Item, bad, items}
 use Rattle.walk.specs.declared.Pair.{Pair}
 use Rattle.walk.specs.declared.Pair.TheVariants.{Byte, End, Broken}
-use Rattle.walk.specs.declared.Walk.{Walk}
-use Rattle.walk.specs.declared.Walk.TheVariants.{Frame, Malformed}
+use Rattle.walk.specs.declared.Frame.{Frame}
+use Rattle.walk.specs.declared.Malformed.{Malformed}
 use Rattle.walk.specs.Pairs.{pair_of, to_tell}
 
 -- A line of 2 to 100 bytes, now the first k of out, with their sum; the next line starts at `next`.
@@ -27,14 +27,14 @@ pub record Spoilt (log : List ℕ) (at : ℕ) : Type 0 where
   pub is : items (lines_of (drop at log)) ≡ bad 2 ∷ others
 
 -- The next line starts behind what was looked at.
-abbrev pub Walked : List ℕ → ℕ → Walk → List ℕ → Type 0
-Walked log at (Frame k sum looks) out = Framed log at k sum (at + looks) out
-Walked log at (Malformed looks) out = Spoilt log at
+abbrev pub Walked : List ℕ → ℕ → Result Frame Malformed → List ℕ → Type 0
+Walked log at (Ok f) out = Framed log at f.length f.sum (at + f.looks) out
+Walked log at (Err m) out = Spoilt log at
 
 -- How many bytes of the log were looked at.
-abbrev pub looked : Walk → ℕ
-looked (Frame k sum looks) = looks
-looked (Malformed looks) = looks
+abbrev pub looked : Result Frame Malformed → ℕ
+looked (Ok f) = f.looks
+looked (Err m) = m.looks
 
 -- The byte of a pair in front of others, if it is one.
 abbrev pub onto : Pair → List ℕ → List ℕ

@@ -8,14 +8,8 @@ ghost use Rattle.cells.specs.Put.{put_of};
 ghost use Rattle.walk.specs.Pairs.{digit_of, pair_of, to_tell};
 ghost use Rattle.walk.specs.Walked.{Walked, looked, lead, looks_of};
 
-// What a byte is as a digit.
-#[derive(Clone, Copy)]
-enum Digit {
-    Value(u8),
-    Bad,
-}
-
 // What stands at an even place of a line.
+// An own enum: an Option says only one way to be no byte, and a line's end is no fault, as a Result's error would be.
 #[derive(Clone, Copy)]
 enum Pair {
     Byte(u8),
@@ -23,21 +17,30 @@ enum Pair {
     Broken,
 }
 
-// A walk over a line: the number of the line's bytes, their sum, and how many bytes of the log were looked at.
+// A line's bytes: how many they are, their sum, and how many bytes of the log were looked at.
 #[derive(Clone, Copy)]
-pub enum Walk {
-    Frame(usize, u8, usize),
-    Malformed(usize),
+pub struct Frame {
+    pub length: usize,
+    pub sum: u8,
+    pub looks: usize,
+}
+
+// A line whose form is wrong, and how many bytes of the log were looked at.
+#[derive(Clone, Copy)]
+pub struct Malformed {
+    pub looks: usize,
 }
 
 // The digit 0-9 A-F that a byte is.
-fn read_digit(b: u8) -> Digit
+// By ranges: the library's digits are of a char, and take small letters too.
+#[tactic(auto, unfolding(model::specs::Bytes::digit, model::specs::Lists::between))]
+fn read_digit(b: u8) -> Option<u8>
     ensures { digit_of result ≡ digit b }
 {
     match b {
-        48..=57 => Digit::Value(b - 48),
-        65..=70 => Digit::Value(b - 55),
-        0..=47 | 58..=64 | 71..=255 => Digit::Bad,
+        b'0'..=b'9' => Some(b - b'0'),
+        b'A'..=b'F' => Some(b - b'A' + 10),
+        _ => None,
     }
 }
 
@@ -57,55 +60,49 @@ fn read_pair(log: &[u8], i: usize, looks: &mut usize) -> Pair
     ensures value { result ≡ pair_of (drop i log.now) }
 {
     let a = look(log, i, looks);
-    match read_digit(a) {
-        Digit::Value(h) => {
-            let j = i + 1;
-            if log.len() <= j {
-                return Pair::Broken;
-            }
-            let b = look(log, j, looks);
-            match read_digit(b) {
-                Digit::Value(l) => Pair::Byte(16 * h + l),
-                Digit::Bad => Pair::Broken,
-            }
-        }
-        Digit::Bad => { if a == 0x0A { Pair::End } else { Pair::Broken } }
+    let Some(high) = read_digit(a) else {
+        return if a == b'\n' { Pair::End } else { Pair::Broken };
+    };
+    let j = i + 1;
+    if log.len() <= j {
+        return Pair::Broken;
+    }
+    let b = look(log, j, looks);
+    match read_digit(b) {
+        Some(low) => Pair::Byte(16 * high + low),
+        None => Pair::Broken,
     }
 }
 
 // The line that starts at `at`: its bytes go to the front of `out` and into the sum, pair by pair.
-pub fn walk_line(log: &[u8], at: usize, out: &mut [u8]) -> Walk
+pub fn walk_line(log: &[u8], at: usize, out: &mut [u8]) -> Result<Frame, Malformed>
     requires { (at < length log.now) × (length out.old ≡ 100) }
     ensures result_value { looked result ≡ looks_of (drop at log.now) }
     ensures looks { Looks (lines_of (drop at log.now)) (looked result) }
     ensures walked { Walked log.now at result out.new }
     ensures out_after { out.new ≡ put_of out.old 0 (lead 100 (drop at log.now)) }
 {
-    let mut k = 0;
     let mut sum: u8 = 0;
     let mut looks = 0;
-    let mut i = at;
-    while i < log.len() {
+    for k in 0..=100 {
+        let i = at + 2 * k;
+        if log.len() <= i {
+            break;
+        }
         match read_pair(log, i, &mut looks) {
-            Pair::Byte(b) => {
-                if k == 100 {
-                    break;
-                }
+            Pair::Byte(b) if k < 100 => {
                 out[k] = b;
-                sum = std::num::wrapping_add_u8(sum, b);
-                k += 1;
-                i += 2;
+                sum = sum.wrapping_add(b);
             }
-            Pair::End => {
-                if k < 2 {
-                    break;
-                }
-                return Walk::Frame(k, sum, looks);
+            Pair::End if 2 <= k => {
+                return Ok(Frame {
+                    length: k,
+                    sum,
+                    looks,
+                });
             }
-            Pair::Broken => {
-                break;
-            }
+            _ => break,
         }
     }
-    Walk::Malformed(looks)
+    Err(Malformed { looks })
 }

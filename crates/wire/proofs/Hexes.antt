@@ -1,5 +1,6 @@
 -- The digits of bytes, and a frame's line put together from its parts.
-use Rattle.std.proofs.Common.{◌≡◌, ℕ, ◌+◌, ◌*◌, ◌<◌, ◌≤◌, List, [], ◌∷◌, ◌++◌, length, get_or, take, set, refl, ap, ◌∙◌, add-one, arith, length-append, length-take-le, take-suc}
+use Rattle.std.proofs.Common.{◌≡◌, ℕ, ◌+◌, ◌*◌, ◌%◌, ◌<◌, ◌≤◌, List, [], ◌∷◌, ◌++◌, length, fold, get_or, take, set, refl, ap, ◌∙◌, add-one, arith, length-append, length-take-le, take-suc}
+use Rattle.model.specs.Lists.{sum, total}
 use Rattle.model.specs.Bytes.{hex, check_byte, line}
 use Rattle.codec.proofs.Hex.{length-hex}
 use Rattle.cells.specs.Put.{put_of}
@@ -31,3 +32,12 @@ put-line-is d d₁ d₂ f at end x h e ex e₁ e₂ w =
     let all : put_of d₂ (end + 2) (0x0A ∷ []) ≡ put_of d at (hex (f ++ (x ∷ [])) ++ (0x0A ∷ [])) =
     rw (n₂, two) (put-put d (hex (f ++ (x ∷ []))) (0x0A ∷ []) at h) in
     put_one d₂ (end + 2) 0x0A w ∙ all ∙ rw ex
+
+-- Bytes added up, each time modulo 256.
+fold_from : (s : List ℕ) (t : ℕ) → t < 256 → fold (λ a b. (a + b) % 256) t s ≡ (t + total s) % 256
+unfolding sum
+fold_from [] t h = omega arith
+fold_from (b ∷ s) t h = omega (arith, fold_from s ((t + b) % 256) (omega arith))
+
+pub sum_fold : (s : List ℕ) → fold (λ a b. (a + b) % 256) 0 s ≡ total s % 256
+sum_fold s = omega (arith, fold_from s 0 (omega arith))

@@ -6,7 +6,7 @@ use native.Mathlib.Omega.{arith}
 use mathlib.Core.Bool.{Bool, true}
 use mathlib.Core.List.{List, [], ◌∷◌, ◌++◌, append_assoc, append-nil}
 use lib.ListN.{length, take, drop, set, length-append, length-drop}
-use lib.Seq.{length-take-le, drop-drop}
+use lib.Seq.{length-take-le}
 use Rattle.model.specs.Cut.{empty}
 use Rattle.model.specs.Reading.{report_size, header_kind}
 use Rattle.model.specs.Merge.{report_bytes, reports_bytes}
@@ -20,88 +20,86 @@ use Rattle.write_beside.proofs.Lines.{put_taken}
 
 -- ONE REPORT
 
-pub report-put : (p w : Bool) (d f x y : List ℕ) (at from own size : ℕ) → own ≡ report_size p → size ≡ report_size w → from + report_size p ≤ length f → at ≤ length d
-    → x ≡ put_of d at (take (from + own - from) (drop from f)) → y ≡ put_of x (at + own) (empty (size - own))
-    → y ≡ put_of d at (report_bytes p w (drop from f))
+pub report-put : (p w : Bool) (d f x y : List ℕ) (at own size end : ℕ) → own ≡ report_size p → size ≡ report_size w → own ≤ length f → at ≤ length d
+    → end ≡ at + own → x ≡ put_of d at (take own f) → y ≡ put_of x end (empty (size - own))
+    → y ≡ put_of d at (report_bytes p w f)
 unfolding report_bytes
-report-put p w d f x y at from own size e g h l q r =
-    let s = take own (drop from f) in
-    let k : from + own - from ≡ own = omega arith in
-    let n : length s ≡ own = length-take-le own (drop from f) (omega (arith, length-drop from f)) in
-    let first : x ≡ put_of d at s = q ∙ rw k refl in
-    r ∙ ap (λ (t : List ℕ). put_of t (at + own) (empty (size - own))) first ∙ ap (λ (i : ℕ). put_of (put_of d at s) (at + i) (empty (size - own))) (sym n)
+report-put p w d f x y at own size end e g h l a q r =
+    let s = take own f in
+    let n : length s ≡ own = length-take-le own f h in
+    r ∙ ap (λ (t : List ℕ). put_of t end (empty (size - own))) q ∙ ap (λ (i : ℕ). put_of (put_of d at s) i (empty (size - own))) (omega (arith, a, n))
     ∙ put-put d s (empty (size - own)) at l ∙ rw (e, g) refl
 
 -- ALL REPORTS OF A HEADER
 
--- k of n are put: they end at `end` of x, and the next stands at `from` of f
-pub record Reported (p w : Bool) (n : ℕ) (f d : List ℕ) (at : ℕ) (x : List ℕ) (from end k : ℕ) : Type 0 where
+-- k of n are put, the first of f: they end at `end` of x, and those left stand at the front of rest
+pub record Reported (p w : Bool) (n : ℕ) (f d : List ℕ) (at : ℕ) (x rest : List ℕ) (end k : ℕ) : Type 0 where
   pub covers : Covers p w
-  pub long : 2 + n * report_size p ≤ length f
   pub room : at + n * report_size w ≤ length d
   pub within : k ≤ n
-  pub reached : from ≡ 2 + k * report_size p
+  pub left : (n - k) * report_size p ≤ length rest
   pub ends : end ≡ at + k * report_size w
   pub written : List ℕ
   pub size : length written ≡ k * report_size w
-  pub whole : reports_bytes p w n (drop 2 f) ≡ written ++ reports_bytes p w (n - k) (drop from f)
+  pub whole : reports_bytes p w n f ≡ written ++ reports_bytes p w (n - k) rest
   pub is : x ≡ put_of d at written
 
 module _ {p w : Bool} {n : ℕ} {f d : List ℕ} {at : ℕ} where
-  pub reported_none : Covers p w → 2 + n * report_size p ≤ length f → at + n * report_size w ≤ length d → Reported p w n f d at d 2 at 0
-  reported_none c l m = record {
+  pub reported_none : Covers p w → n * report_size p ≤ length f → at + n * report_size w ≤ length d → Reported p w n f d at d f at 0
+  reported_none c l m = let e : n - 0 ≡ n = omega arith in record {
     covers = c;
-    long = l;
     room = m;
     within = omega arith;
-    reached = omega (arith, zero-mul (report_size p));
+    left = rw e l;
     ends = omega (arith, zero-mul (report_size w));
     written = [];
     size = sym (zero-mul (report_size w));
-    whole = let e : n - 0 ≡ n = omega arith in rw e refl;
+    whole = rw e refl;
     is = sym (put-nil d at);
   }
 
-  module _ {x : List ℕ} {from end k : ℕ} (r : Reported p w n f d at x from end k) where
+  module _ {x rest : List ℕ} {end k : ℕ} (r : Reported p w n f d at x rest end k) where
     pub reported_length : length x ≡ length d
     reported_length = ap length r.is ∙ length-put d r.written at (omega (arith, r.size, r.room, mul-le-mul_right (report_size w) r.within))
 
     module _ (h : k < n) where
-      pub next_in : from + report_size p ≤ length f
-      next_in = omega (arith, r.reached, r.long, report_in p k n h)
+      one-less : n - k ≡ suc (n - (k + 1))
+      one-less = omega arith
+
+      pub next_in : report_size p ≤ length rest
+      next_in = omega (arith, r.left, ap (λ (m : ℕ). m * report_size p) one-less, suc-mul (n - (k + 1)) (report_size p))
 
       pub next_fits : end + report_size w ≤ length x
       next_fits = omega (arith, r.ends, r.room, reported_length, report_in w k n h)
 
-      next-whole : reports_bytes p w (n - k) (drop from f) ≡ report_bytes p w (drop from f) ++ reports_bytes p w (n - (k + 1)) (drop (from + report_size p) f)
+      next-whole : reports_bytes p w (n - k) rest ≡ report_bytes p w rest ++ reports_bytes p w (n - (k + 1)) (drop (report_size p) rest)
       unfolding reports_bytes
-      next-whole = let e : n - k ≡ suc (n - (k + 1)) = omega arith in rw (e, ← drop-drop (report_size p) from f) refl
+      next-whole = rw one-less refl
 
-      pub reported_more : (own : ℕ) → own ≡ report_size p → (y : List ℕ) (last : ℕ) → last ≡ end + report_size w → y ≡ put_of x end (report_bytes p w (drop from f))
-          → Reported p w n f d at y (from + own) last (k + 1)
+      pub reported_more : (own : ℕ) → own ≡ report_size p → (y : List ℕ) (last : ℕ) → last ≡ end + report_size w → y ≡ put_of x end (report_bytes p w rest)
+          → Reported p w n f d at y (drop own rest) last (k + 1)
       reported_more own o y last e u =
-          let b = report_bytes p w (drop from f) in
-          let l : length b ≡ report_size w = length-report p w r.covers (drop from f) (omega (arith, next_in, length-drop from f)) in
+          let b = report_bytes p w rest in
+          let l : length b ≡ report_size w = length-report p w r.covers rest next_in in
           let z : end ≡ at + length r.written = omega (arith, r.ends, r.size) in
           record {
             covers = r.covers;
-            long = r.long;
             room = r.room;
             within = omega arith;
-            reached = omega (arith, r.reached, suc-mul k (report_size p));
+            left = omega (arith, o, r.left, ap (λ (m : ℕ). m * report_size p) one-less, suc-mul (n - (k + 1)) (report_size p), length-drop own rest);
             ends = omega (arith, r.ends, suc-mul k (report_size w));
             written = r.written ++ b;
             size = omega (arith, length-append r.written b, l, r.size, suc-mul k (report_size w));
-            whole = r.whole ∙ ap (λ (t : List ℕ). r.written ++ t) next-whole ∙ sym (append_assoc r.written b (reports_bytes p w (n - (k + 1)) (drop (from + report_size p) f))) ∙ rw o refl;
+            whole = r.whole ∙ ap (λ (t : List ℕ). r.written ++ t) next-whole ∙ sym (append_assoc r.written b (reports_bytes p w (n - (k + 1)) (drop (report_size p) rest))) ∙ rw o refl;
             is = u ∙ rw (r.is, z) (put-put d r.written b at (omega (arith, r.room)));
           }
 
-    pub reported_all : n ≤ k → (end ≡ at + n * report_size w) × (x ≡ put_of d at (reports_bytes p w n (drop 2 f)))
+    pub reported_all : n ≤ k → (end ≡ at + n * report_size w) × (x ≡ put_of d at (reports_bytes p w n f))
     unfolding reports_bytes
     reported_all h =
         let m : k ≡ n = omega (arith, r.within) in
         let o : n - k ≡ 0 = omega arith in
-        let z : reports_bytes p w n (drop 2 f) ≡ r.written = r.whole ∙ rw o (append-nil r.written) in
+        let z : reports_bytes p w n f ≡ r.written = r.whole ∙ rw o (append-nil r.written) in
         (r.ends ∙ rw m refl, r.is ∙ ap (put_of d at) (sym z))
 
 -- THE HEADER

@@ -7,14 +7,14 @@ mod report;
 
 ghost use Rattle.std.specs.Prelude.{◌≡◌, ◌+◌, ◌≤◌, length};
 ghost use Rattle.model.specs.Bytes.{line};
+ghost use Rattle.model.specs.Codes.{kind_byte};
 ghost use Rattle.model.specs.Merge.{of_kind};
 ghost use Rattle.lattice.proofs.Lists.{All};
 ghost use Rattle.cells.specs.Put.{put_of};
 ghost use Rattle.codec.specs.Entries.{Formed, entries};
 ghost use Rattle.write_beside.specs.Moved.{Covered, kind, part_of, Fits, header_of, Headers};
 
-use cells::wide;
-use model::Log;
+use model::{Kind, Log};
 
 // The bytes of the largest header, and of the largest event: kind, stations or station, reports, and the event's clock.
 const HEADER: usize = 2 + Log::STATIONS * Log::REPORT;
@@ -40,13 +40,15 @@ pub enum Part {
 }
 
 // The kind of a part's frames.
-fn kind(part: Part) -> u8
-    ensures { result ≡ kind part }
-{
-    match part {
-        Part::Events => 0x20,
-        Part::Messages => 0x25,
-        Part::Questions => 0x30,
+impl From<Part> for Kind {
+    ghost from_gives = { λ part own. kind_byte own ≡ kind part };
+
+    fn from(part: Part) -> Kind {
+        match part {
+            Part::Events => Kind::Event,
+            Part::Messages => Kind::Message,
+            Part::Questions => Kind::Question,
+        }
     }
 }
 
@@ -70,17 +72,16 @@ pub fn put_part(part: Part, side: Side, list: &[u8], out: &mut [u8], at: usize) 
     ensures value { result ≡ at + length (part_of part side list.now) }
     ensures out_after { out.new ≡ put_of out.old at (part_of part side list.now) }
 {
-    let own = kind(part);
-    let mut from = 0;
+    let own = u8::from(Kind::from(part));
+    let mut rest = list;
     let mut end = at;
-    while from < list.len() {
-        let k = wide(list[from]);
-        let a = from + 1;
-        let e = a + k;
-        if list[a] == own {
-            end = frames::put_moved(part, side, &list[a..e], out, end);
+    // By what is left: each entry's first byte tells its end. No iterator of the library steps so, and a closure that does is no plainer.
+    while let Some((size, behind)) = rest.split_first() {
+        let (frame, after) = behind.split_at(usize::from(*size));
+        if frame[0] == own {
+            end = frames::put_moved(part, side, frame, out, end);
         }
-        from = e;
+        rest = after;
     }
     end
 }

@@ -1,9 +1,8 @@
 -- `atoms::range` meets its contract, by the laws of an atom's token. Assumes nothing.
-use mathlib.Core.Path.{◌≡◌, sym, ap}
+use mathlib.Core.Path.{◌≡◌, sym, ap, ◌∙◌}
 use mathlib.Core.Bool.{Bool, true}
 use mathlib.Core.List.{List}
 use Prim.Native.Nat.{ℕ}
-use native.Mathlib.Omega.{arith}
 use lib.Dec.{ltb}
 use lib.ListN.{get_or}
 use Rattle.model.specs.declared.Aspect.{Aspect}
@@ -21,11 +20,8 @@ askable-is : (s : Bool) (a : Aspect) (q : List ℕ) → true ≡ askable s (atom
 unfolding askable range_of
 askable-is s a q = ap (askable s) (sym (range-of a q))
 
-pub returns-then-rest-lt5 : goal.returns-then-rest-lt5
-returns-then-rest-lt5 c = λ s a. nothing-atom (range_token a) 5 c.args.rest.now (range-operands a) c.if-rest-lt5.true
-
-pub overflow_cast-s : goal.overflow_cast-s
-overflow_cast-s c = omega (arith, c.type_inv.rest 0)
+pub returns-in_default : goal.returns-in_default
+returns-in_default c = λ s a. nothing-atom (range_token a) 5 c.args.rest.now (range-operands a) c.in_default.len_below
 
 pub returns : goal.returns
-returns c = λ s a. sized-atom (range_token a) 5 _ (range-operands a) _ s (omega arith) (sound-is _ a _) (askable-is s a _) c.single.ensures
+returns c = λ s a. sized-atom (range_token a) 5 _ (range-operands a) _ s c.in-len5-up.len_at_least (ap (λ (i : ℕ). ltb i c.args.n) c.from.ensures ∙ sound-is _ a _) (askable-is s a _) c.single.ensures

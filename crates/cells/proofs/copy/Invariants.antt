@@ -1,12 +1,7 @@
--- The loop writes the cells of the source, element by element.
-use Prim.Native.Nat.{◌≤◌, ◌-◌}
-use mathlib.Core.Path.{◌≡◌}
-use lib.ListN.{length, drop}
-use lib.Seq.{paste}
+-- The cells below i are copied.
+use Rattle.std.proofs.Common.{◌≡◌, drop}
+use Rattle.std.proofs.Math.Seq.{paste}
 use Rattle.cells.proofs.copy.Given as goal
 
 abbrev pub invariant-loop-i : goal.invariant-loop-i
-invariant-loop-i l = (l.i ≤ l.len) × (l.ws ≡ paste l.initial.ws l.at (drop l.from l.src) l.i) × (length l.ws ≡ length l.initial.ws)
-
-abbrev pub decreases-loop-i : goal.decreases-loop-i
-decreases-loop-i l = l.len - l.i
+invariant-loop-i l = l.ws ≡ paste l.initial.ws l.at (drop l.from l.src) l.i

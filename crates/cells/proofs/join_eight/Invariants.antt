@@ -1,12 +1,9 @@
--- `cells::join_eight` meets its contract: a local array fills with the join, and is then copied.
-use mathlib.Core.Path.{◌≡◌}
-use Prim.Native.Nat.{◌≤◌, ◌-◌}
-use lib.ListN.{length, drop, replicate}
-use Rattle.cells.proofs.Stores as stores
+-- The counts below i are joined.
+use Rattle.std.proofs.Common.{◌≡◌, ℕ, ◌+◌, ◌<◌, max, length, get_or}
 use Rattle.cells.proofs.join_eight.Given as goal
 
 abbrev pub invariant-loop-i : goal.invariant-loop-i
-invariant-loop-i l = (l.i ≤ 8) × (l.t ≡ stores.joining l.acc (drop l.at l.ws) (replicate 8 0) l.i) × (length l.t ≡ 8)
-
-abbrev pub decreases-loop-i : goal.decreases-loop-i
-decreases-loop-i l = 8 - l.i
+invariant-loop-i l = record {
+  eight : length l.t ≡ 8;
+  joined : (k : ℕ) → k < l.i → get_or l.t k 0 ≡ max (get_or l.acc k 0) (get_or l.ws (l.at + k) 0);
+}

@@ -1,11 +1,10 @@
--- The invariant: the lines of the frames before `from` stand in out up to `end`. Assumes nothing.
-use Prim.Native.Nat.{◌-◌}
+-- The invariant: the lines of the frames before `rest` stand in out up to `end`. Assumes nothing.
 use lib.ListN.{length}
 use Rattle.entries.proofs.Writes.{Lined}
 use Rattle.entries.proofs.put_lines.Given as goal
 
-abbrev pub invariant-loop-from : goal.invariant-loop-from
-invariant-loop-from l = Lined l.list l.initial.out l.out l.from l.end
+abbrev pub invariant-loop-rest : goal.invariant-loop-rest
+invariant-loop-rest l = Lined l.list l.initial.out l.out l.rest l.end
 
-abbrev pub decreases-loop-from : goal.decreases-loop-from
-decreases-loop-from l = length l.list - l.from
+abbrev pub decreases-loop-rest : goal.decreases-loop-rest
+decreases-loop-rest l = length l.rest

@@ -1,13 +1,11 @@
 -- The invariant: the frames before p were admitted. Assumes nothing.
-use mathlib.Core.Path.{◌≡◌}
 use Prim.Native.Nat.{◌-◌}
 use lib.ListN.{length}
-use Rattle.model.specs.Limits.{store_size}
 use Rattle.entries.specs.Entries.{Partly}
 use Rattle.entries.proofs.try_entries.Given as goal
 
 abbrev pub invariant-loop-p : goal.invariant-loop-p
-invariant-loop-p l = Partly l.m l.list l.p l.store × (length l.store ≡ store_size)
+invariant-loop-p l = Partly l.m l.list l.p l.store
 
 abbrev pub decreases-loop-p : goal.decreases-loop-p
 decreases-loop-p l = length l.list - l.p.length

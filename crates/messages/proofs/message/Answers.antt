@@ -1,49 +1,23 @@
 -- Each test is one of the definition's, in its order. Assumes nothing.
-use mathlib.Core.Path.{◌≡◌, sym, ap, ◌∙◌}
-use mathlib.Core.List.{List}
-use Prim.Native.Nat.{ℕ, ◌-◌}
-use native.Mathlib.Omega.{arith}
-use lib.ListN.{length, drop, length-take, length-drop}
-use lib.Seq.{take_all}
-use Rattle.model.specs.declared.Fault.TheVariants.{Kind, Message}
-use Rattle.model.specs.Computation.{Computation, message_ok}
-use Rattle.model.specs.Reading.{Reading, message_of}
-use Rattle.table.specs.Table.{Stored}
-use Rattle.frame.specs.State.{Represents}
-use Rattle.frame.proofs.Steps.{Frame, turned}
-use Rattle.messages.proofs.Messages.{out_of_place, wrong-length, message_wrong, room-there, message_next}
+use mathlib.Core.Path.{sym, ◌∙◌}
+use Rattle.cells.proofs.Parts.{drop-whole}
+use Rattle.messages.proofs.Messages.{closed, full, misshapen, wrong, message_next}
 use Rattle.messages.proofs.message.Goals as goal
-use Rattle.messages.proofs.message.Goals.{After-message_ok, Start}
+use Rattle.messages.proofs.message.Goals.{then-not-is_open-via-then-not-is_open, then-not-is_open-via-else-not-is_open+then-m-s, then-bytes-ne-MESSAGE-via-then-bytes-ne-MESSAGE, then-bytes-ne-MESSAGE-via-else-bytes-ne-MESSAGE+then-not-message_ok}
 
--- the frame, after whatever the state and the store represent
-framed : (c : Start) (r : Reading) → Represents r c.args.s c.args.store.now → Frame 0x25 r c.args.s c.args.frame.now c.args.store.now
-framed c r h = record { holds = h; some_bytes = c.requires.in_bounds.0; kind = c.requires.in_bounds.1 }
+pub returns-then-not-is_open : goal.returns-then-not-is_open
+returns-then-not-is_open c = let p = c.requires.in_bounds in elim c.then-not-is_open.branch [
+  | then-not-is_open-via-then-not-is_open w ↦ closed _ _ _ p.0 p.1 (sym c.is_open.ensures ∙ w.if-not-is_open.true)
+  | then-not-is_open-via-else-not-is_open+then-m-s w ↦ full _ _ _ p.0 p.1 w.if-m-s.true
+]
 
--- what the test of the message says
-tested : (c : After-message_ok) (K : Computation) → Stored K c.args.s.stations c.args.s.counts c.args.store.now → message_ok K (message_of (drop 1 c.args.frame.now)) ≡ c.message_ok.result
-tested c K g =
-    let f = c.args.frame.now in
-    ap (λ (l : List ℕ). message_ok K (message_of l)) (sym (take_all (length f - 1) (drop 1 f) (omega (arith, length-drop 1 f)))) ∙ sym (c.message_ok.ensures K g)
-
-pub returns-then-not-in_place : goal.returns-then-not-in_place
-returns-then-not-in_place c = turned Kind _ c.faulty.ensures c.requires.no_larger.1 (λ r h. out_of_place _ (framed (goal.at.returns-then-not-in_place c).Start r h) (sym c.in_place.ensures ∙ c.if-not-in_place.true))
-
-pub returns-then-frame : goal.returns-then-frame
-returns-then-frame c = turned Message _ c.faulty-then-frame.ensures c.requires.no_larger.1 (λ r h. wrong-length _ (framed (goal.at.returns-then-frame c).Start r h) (sym c.in_place.ensures ∙ c.if-not-in_place.false) c.if-frame.true)
-
-pub message_ok-requires : goal.message_ok-requires
-message_ok-requires c =
-    let p = c.requires in
-    record { bytes_len = (simp (length-take, length-drop) (omega (arith, c.if-frame.false)), omega (arith, p.no_larger.1.few_stations, p.no_larger.0.stations), p.in_bounds.2); by_index = λ i. omega (arith, p.no_larger.1.each i, p.no_larger.1.few_events, p.no_larger.0.events) }
-
-pub returns-then-not-message_ok : goal.returns-then-not-message_ok
-returns-then-not-message_ok c = turned Message _ c.faulty-then-not-message_ok.ensures c.requires.no_larger.1 (λ r h. message_wrong _ (framed (goal.at.returns-then-not-message_ok c).Start r h) (sym c.in_place.ensures ∙ c.if-not-in_place.false) c.if-frame.false (tested (goal.at.returns-then-not-message_ok c).After-message_ok r.computation h.stored ∙ c.if-not-message_ok.true))
-
-pub add_message-next-requires : goal.add_message-next-requires
-add_message-next-requires c =
-    let p = c.requires in
-    let a = c.args in
-    (omega (arith, room-there a.m a.s (sym c.in_place.ensures ∙ c.if-not-in_place.false), p.no_larger.0.messages), simp (length-take, length-drop) (omega (arith, c.if-frame.false)), p.in_bounds.2)
+pub returns-then-bytes-ne-MESSAGE : goal.returns-then-bytes-ne-MESSAGE
+returns-then-bytes-ne-MESSAGE c = let p = c.requires.in_bounds in let o = sym c.is_open.ensures ∙ c.if-not-is_open.false in elim c.then-bytes-ne-MESSAGE.branch [
+  | then-bytes-ne-MESSAGE-via-then-bytes-ne-MESSAGE w ↦ misshapen _ _ _ p.0 p.1 o c.if-m-s.false (rw (drop-whole 1 c.args.frame.now) at w.if-bytes-ne-MESSAGE.true)
+  | then-bytes-ne-MESSAGE-via-else-bytes-ne-MESSAGE+then-not-message_ok w ↦ wrong _ _ _ p.0 p.1 o c.if-m-s.false (rw (drop-whole 1 c.args.frame.now) at w.if-not-message_ok.ensures)
+]
 
 pub returns : goal.returns
-returns c = message_next c.requires.no_larger.0 c.requires.no_larger.1 (sym c.in_place.ensures ∙ c.if-not-in_place.false) c.args.frame.now _ _ c.requires.in_bounds.0 c.requires.in_bounds.1 c.requires.in_bounds.2 c.if-frame.false (λ K g. tested (goal.at.returns c).After-message_ok K g ∙ c.if-not-message_ok.false) c.add_message-next.ensures.value c.add_message-next.ensures.store_after
+returns c = let p = c.requires in let o = sym c.is_open.ensures ∙ c.if-not-is_open.false in let d = drop-whole 1 c.args.frame.now in
+    rw (c.with_message.ensures, c.put.ensures, c.message_slot.ensures.0, d)
+    (message_next p.no_larger.0 p.no_larger.1 _ _ p.in_bounds.0 p.in_bounds.1 o c.if-m-s.false c.told-store (rw d at c.if-bytes-ne-MESSAGE.false) (rw d at c.if-not-message_ok.ensures))

@@ -1,42 +1,70 @@
--- What loading the first log comes to decides. Assumes nothing.
-use mathlib.Core.Path.{◌≡◌, sym}
-use native.Mathlib.Omega.{arith}
-use lib.ListN.{length}
-use lib.Seq.{length-take-le}
+-- What loading each log comes to decides, and then the tests of both together, in their order. Assumes nothing.
+use Rattle.std.proofs.lemmas.Result.{err_from_is_err_and}
 use Rattle.model.specs.Limits.{limits}
-use Rattle.model.specs.Reading.{read_log}
+use Rattle.model.specs.Reply.{refuses}
 use Rattle.load.specs.Loading.{Accepts}
-use Rattle.load.proofs.Loads.{to_accepts, to_refused, no_larger}
-use Rattle.op_merge.proofs.Operations.{accepts-opened, accepts-first, first-refused, merge_met}
-use borrow.Author.Rules.{rules}
+use Rattle.op_merge.proofs.Operations.{MergeMet, accepts_opened, both_wide, many_events, many_messages, both_full, both_fits, both_done, met_first_refused, met_second_refused, met}
 use Rattle.op_merge.proofs.merge.Goals as goal
-use Rattle.op_merge.proofs.merge.Goals.{In-Accepted}
+use Rattle.op_merge.proofs.merge.Goals.{In_ok-one, In_ok-two, then-s-t-gt-EVENTS-via-then-s-t-gt-EVENTS, then-s-t-gt-EVENTS-via-else-s-t-gt-EVENTS+then-s-t-gt-MESSAGES}
 
-pub load-loaded-requires : goal.load-loaded-requires
-load-loaded-requires c = record { no_larger = no_larger _ c.limits.ensures; list_len = search rules }
+-- The first log is accepted, and the second.
+first : (c : In_ok-one) → Accepts limits c.args.first.now c.in_ok-one.one.state c.in_ok-one.one.length c.load.new.list c.load.new.store
+first c = rw c.limits.ensures at c.in_ok-one.ensures.loads
 
--- The first log is accepted.
-accepts : (c : In-Accepted) → Accepts limits c.args.first.now c.load-loaded.result.state c.load-loaded.result.length c.load-loaded.new.list c.load-loaded.new.store
-accepts c = rw c.limits.ensures at (to_accepts _ _ _ _ _ _ _ c.load-loaded.ensures.loads c.in-Accepted.is)
+second : (c : In_ok-two) → Accepts limits c.args.second.now c.in_ok-two.two.state c.in_ok-two.two.length c.load-2.new.list c.load-2.new.store
+second c = rw c.limits-2.ensures at c.in_ok-two.ensures.loads
 
-long : (c : In-Accepted) → length c.load-loaded.new.list ≡ limits.list
-long c = search rules
+pub returns-in_err-one : goal.returns-in_err-one
+returns-in_err-one c = let r = err_from_is_err_and c.from_residual.result c.from_residual.ensures.1 in
+    let m = met_first_refused c.args.first.now c.args.second.now c.args.out.now (rw c.limits.ensures at c.in_err-one.ensures.loads) in
+    rw (r.1, r.2) (record { result_value = m.0; out_after = m.1.0; merges = m.1.1 })
 
-pub slice_bounds-list-end : goal.slice_bounds-list-end
-slice_bounds-list-end c = let a = accepts (goal.at.slice_bounds-list-end c).In-Accepted in omega (arith, long (goal.at.slice_bounds-list-end c).In-Accepted, a.short)
+pub returns-in_err-two : goal.returns-in_err-two
+returns-in_err-two c = let r = err_from_is_err_and c.from_residual-in_err-two.result c.from_residual-in_err-two.ensures.1 in
+    let a = first (goal.at.returns-in_err-two c).In_ok-one in
+    let m = met_second_refused c.args.first.now c.args.second.now c.args.out.now a.reading a.is (rw c.limits-2.ensures at c.in_err-two.ensures.loads) in
+    rw (r.1, r.2) (record { result_value = m.0; out_after = m.1.0; merges = m.1.1 })
 
-pub slice_bounds-merge_with-end : goal.slice_bounds-merge_with-end
-slice_bounds-merge_with-end c = let a = accepts (goal.at.slice_bounds-merge_with-end c).In-Accepted in sym (length-take-le _ _ (omega (arith, long (goal.at.slice_bounds-merge_with-end c).In-Accepted, a.short)))
+pub returns-then-s-t-gt-STATIONS : goal.returns-then-s-t-gt-STATIONS
+returns-then-s-t-gt-STATIONS c =
+    let a = first (goal.at.returns-then-s-t-gt-STATIONS c).In_ok-one in
+    let b = second (goal.at.returns-then-s-t-gt-STATIONS c).In_ok-two in
+    let m = met c.args.first.now c.args.second.now c.args.out.now a.reading b.reading a.is b.is (both_wide (accepts_opened a) (accepts_opened b) c.args.out.now c.if-s-t-gt-STATIONS.true) in
+    rw c.into.ensures (record { result_value = m.0; out_after = m.1.0; merges = m.1.1 })
 
-pub merge_with-requires : goal.merge_with-requires
-merge_with-requires c = let a = accepts (goal.at.merge_with-requires c).In-Accepted in ((a.reading, accepts-opened a), search rules)
+pub returns-then-s-t-gt-EVENTS : goal.returns-then-s-t-gt-EVENTS
+returns-then-s-t-gt-EVENTS c =
+    let a = first (goal.at.returns-then-s-t-gt-EVENTS c).In_ok-one in
+    let b = second (goal.at.returns-then-s-t-gt-EVENTS c).In_ok-two in
+    let x = accepts_opened a in
+    let y = accepts_opened b in
+    let n = c.if-s-t-gt-STATIONS.false in
+    let m : MergeMet c.args.first.now c.args.second.now c.args.out.now (refuses 18 0) c.args.out.now = met c.args.first.now c.args.second.now c.args.out.now a.reading b.reading a.is b.is (elim c.then-s-t-gt-EVENTS.branch [
+      | then-s-t-gt-EVENTS-via-then-s-t-gt-EVENTS w ↦ many_events x y c.args.out.now n w.if-s-t-gt-EVENTS.true
+      | then-s-t-gt-EVENTS-via-else-s-t-gt-EVENTS+then-s-t-gt-MESSAGES w ↦ many_messages x y c.args.out.now n w.if-s-t-gt-EVENTS.false w.if-s-t-gt-MESSAGES.true
+    ]) in
+    rw c.into-then-s-t-gt-EVENTS.ensures (record { result_value = m.0; out_after = m.1.0; merges = m.1.1 })
 
-pub returns-in-Accepted : goal.returns-in-Accepted
-returns-in-Accepted c = let a = accepts (goal.at.returns-in-Accepted c).In-Accepted in let g = c.args in
-    let r = merge_met g.first.now g.second.now g.out.now _ _ (accepts-first a g.out.now (read_log limits g.second.now) (c.merge_with.ensures a.reading (accepts-opened a))) in
-    record { result_value = r.0; out_after = r.1.0; merges = r.1.1 }
+pub returns-then-out-lt-BYTES : goal.returns-then-out-lt-BYTES
+returns-then-out-lt-BYTES c =
+    let a = first (goal.at.returns-then-out-lt-BYTES c).In_ok-one in
+    let b = second (goal.at.returns-then-out-lt-BYTES c).In_ok-two in
+    let m = met c.args.first.now c.args.second.now c.args.out.now a.reading b.reading a.is b.is
+    (both_full (accepts_opened a) (accepts_opened b) c.args.out.now c.if-s-t-gt-STATIONS.false c.if-s-t-gt-EVENTS.false c.if-s-t-gt-MESSAGES.false c.if-out-lt-BYTES.true) in
+    rw c.into-then-out-lt-BYTES.ensures (record { result_value = m.0; out_after = m.1.0; merges = m.1.1 })
 
-pub returns-in-Refused : goal.returns-in-Refused
-returns-in-Refused c = let L = c.load-loaded in let g = c.args in
-    let r = merge_met g.first.now g.second.now g.out.now _ _ (first-refused (read_log limits g.second.now) g.out.now (rw c.limits.ensures at (to_refused _ _ c.args.first.now L.result.state L.result.length L.new.list L.new.store L.ensures.loads _ c.in-Refused.is))) in
-    record { result_value = r.0; out_after = r.1.0; merges = r.1.1 }
+pub put_frames-requires-clause-fitting : goal.put_frames-requires-clause-fitting
+put_frames-requires-clause-fitting c =
+    let a = first (goal.at.put_frames-requires-clause-fitting c).In_ok-one in
+    let b = second (goal.at.put_frames-requires-clause-fitting c).In_ok-two in
+    both_fits (accepts_opened a) (accepts_opened b) c.args.out.now c.if-s-t-gt-STATIONS.false c.if-s-t-gt-EVENTS.false c.if-s-t-gt-MESSAGES.false
+
+pub returns : goal.returns
+returns c =
+    let a = first (goal.at.returns c).In_ok-one in
+    let b = second (goal.at.returns c).In_ok-two in
+    let x = accepts_opened a in
+    let y = accepts_opened b in
+    let m = met c.args.first.now c.args.second.now c.args.out.now a.reading b.reading a.is b.is
+    (both_done x y c.args.out.now c.if-s-t-gt-STATIONS.false c.if-s-t-gt-EVENTS.false c.if-s-t-gt-MESSAGES.false c.if-out-lt-BYTES.false (c.put_frames.ensures a.reading b.reading x y)) in
+    record { result_value = m.0; out_after = m.1.0; merges = m.1.1 }

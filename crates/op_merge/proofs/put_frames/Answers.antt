@@ -26,10 +26,10 @@ frame_at-requires-2 c = opened_indexed c.requires.fitting.opens_second
 -- WHAT IS WRITTEN, named where the header is
 
 abbrev one : After-frame_at-2 → Side
-one c = c.first_side-one.result
+one c = record { panelled = c.args.s.panelled; carried = c.carried-carried.result; before = 0; behind = c.args.t.stations }
 
 abbrev two : After-frame_at-2 → Side
-two c = c.second_side-two.result
+two c = record { panelled = c.args.t.panelled; carried = c.carried-carried.result; before = c.args.s.stations; behind = 0 }
 
 abbrev list : After-frame_at-2 → List ℕ
 list c = c.args.list.now
@@ -107,10 +107,10 @@ abbrev fit : (c : After-frame_at-2) → Fitting c.args.s (list c) c.args.t (more
 fit c = c.requires.fitting
 
 is_one : (c : After-frame_at-2) → one c ≡ first_side c.args.s c.args.t
-is_one c = c.first_side-one.ensures
+is_one c = rw c.carried-carried.ensures refl
 
 is-two : (c : After-frame_at-2) → two c ≡ second_side c.args.s c.args.t
-is-two c = c.second_side-two.ensures
+is-two c = rw c.carried-carried.ensures refl
 
 is_front : (c : After-frame_at-2) → front c ≡ get_or (fit c).first.frames 0 []
 is_front c = front-is (fit c).opens (front c) c.frame_at.ensures

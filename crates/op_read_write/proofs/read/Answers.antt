@@ -1,47 +1,24 @@
 -- What `load` comes to decides; the list is put at the front of the output. Assumes nothing.
-use mathlib.Core.Path.{◌≡◌, sym, ap}
-use mathlib.Core.Bool.{not}
-use native.Mathlib.Omega.{arith}
-use lib.ListN.{length, length-take}
-use lib.Seq.{length-take-le}
+use Rattle.std.proofs.lemmas.Result.{err_from_is_err_and}
 use Rattle.model.specs.Limits.{limits}
 use Rattle.load.specs.Loading.{Accepts}
-use Rattle.load.proofs.Loads.{to_accepts, to_refused, no_larger}
 use Rattle.op_read_write.proofs.Operations.{read_refused, read_no_room, read_done}
-use borrow.Author.Rules.{rules}
 use Rattle.op_read_write.proofs.read.Goals as goal
-use Rattle.op_read_write.proofs.read.Goals.{In-Accepted}
-
-pub load-loaded-requires : goal.load-loaded-requires
-load-loaded-requires c = record { no_larger = no_larger _ c.limits.ensures; list_len = search rules }
+use Rattle.op_read_write.proofs.read.Goals.{In_ok-state}
 
 -- the log is accepted
-accepts : (c : In-Accepted) → Accepts limits c.args.log.now c.load-loaded.result.state c.load-loaded.result.length c.load-loaded.new.list c.load-loaded.new.store
-accepts c = rw c.limits.ensures at (to_accepts _ _ _ _ _ _ _ c.load-loaded.ensures.loads c.in-Accepted.is)
+accepts : (c : In_ok-state) → Accepts limits c.args.log.now c.in_ok-state.field-0.state c.in_ok-state.field-0.length c.load.new.list c.load.new.store
+accepts c = rw c.limits.ensures at c.in_ok-state.ensures.loads
 
-long : (c : In-Accepted) → length c.load-loaded.new.list ≡ limits.list
-long c = search rules
+pub returns-in_err-state : goal.returns-in_err-state
+returns-in_err-state c = let r = err_from_is_err_and c.from_residual.result c.from_residual.ensures.1 in
+    let m = read_refused _ c.args.out.now (rw c.limits.ensures at c.in_err-state.ensures.loads) in
+    rw (r.1, r.2) (record { result_value = m.0; out_after = m.1.0; rewritten = m.1.1 })
 
-pub slice_bounds-list-end : goal.slice_bounds-list-end
-slice_bounds-list-end c = let a = accepts c in omega (arith, long c, a.short)
+pub returns-then-out-lt-LIST : goal.returns-then-out-lt-LIST
+returns-then-out-lt-LIST c = let m = read_no_room (accepts (goal.at.returns-then-out-lt-LIST c).In_ok-state) _ c.if-out-lt-LIST.true in
+    rw c.into.ensures (record { result_value = m.0; out_after = m.1.0; rewritten = m.1.1 })
 
-pub slice_bounds-put_list-end : goal.slice_bounds-put_list-end
-slice_bounds-put_list-end c = let a = accepts (goal.at.slice_bounds-put_list-end c).In-Accepted in sym (length-take-le _ _ (omega (arith, long (goal.at.slice_bounds-put_list-end c).In-Accepted, a.short)))
-
-pub put_list-requires : goal.put_list-requires
-put_list-requires c = let a = accepts (goal.at.put_list-requires c).In-Accepted in simp length-take (omega (arith, a.short))
-
-pub returns-then-not-put_list : goal.returns-then-not-put_list
-returns-then-not-put_list c = let p = c.put_list in
-    let r = read_no_room (accepts (goal.at.returns-then-not-put_list c).In-Accepted) _ _ p.ensures.value _ p.ensures.out_after (ap not c.if-not-put_list.true) in
-    record { result_value = r.0; out_after = r.1.0; rewritten = r.1.1 }
-
-pub returns-else-not-put_list : goal.returns-else-not-put_list
-returns-else-not-put_list c = let p = c.put_list in
-    let r = read_done (accepts (goal.at.returns-else-not-put_list c).In-Accepted) _ _ p.ensures.value _ p.ensures.out_after (ap not c.if-not-put_list.false) (long (goal.at.returns-else-not-put_list c).In-Accepted) in
-    record { result_value = r.0; out_after = r.1.0; rewritten = r.1.1 }
-
-pub returns-in-Refused : goal.returns-in-Refused
-returns-in-Refused c = let L = c.load-loaded in
-    let r = read_refused _ _ (rw c.limits.ensures at (to_refused _ _ c.args.log.now L.result.state L.result.length L.new.list L.new.store L.ensures.loads _ c.in-Refused.is)) in
-    record { result_value = r.0; out_after = r.1.0; rewritten = r.1.1 }
+pub returns : goal.returns
+returns c = let m = read_done (accepts (goal.at.returns c).In_ok-state) _ c.if-out-lt-LIST.false c.load.array_long in
+    rw c.put.ensures (record { result_value = m.0; out_after = m.1.0; rewritten = m.1.1 })

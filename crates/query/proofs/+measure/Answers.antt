@@ -1,50 +1,81 @@
 -- The recursion over a question's bytes: each arm is one law. Assumes nothing.
-use mathlib.Core.Path.{◌≡◌, ap, ◌∙◌}
-use mathlib.Core.Bool.{not}
-use mathlib.Core.List.{◌∷◌}
-use Prim.Native.Nat.{ℕ, ◌≤◌}
+use mathlib.Core.Path.{◌≡◌, sym, ap, ◌∙◌}
+use mathlib.Core.Bool.{Bool, true, false}
+use mathlib.Core.Logic.{◌⊎◌, inl, inr}
+use mathlib.Core.List.{List, ◌∷◌}
+use Prim.Native.Nat.{ℕ, ◌≤◌, ◌-◌}
 use native.Mathlib.Omega.{arith}
-use lib.Dec.{eqb}
-use lib.ListN.{length, get_or, length-drop}
-use Rattle.atoms.specs.Measured.{Sized}
+use lib.ListN.{length, take, drop, length-drop}
+use lib.Seq.{take_all}
+use Rattle.model.specs.declared.Token.{Token}
+use Rattle.model.specs.declared.Token.TheVariants.{And, Or}
+use Rattle.model.specs.Codes.{token_byte}
+use Rattle.query.specs.Sizes.{pair_byte}
+use Rattle.atoms.proofs.Tokens.{token_of, no_token, no_sign, nothing_unknown}
 use Rattle.query.proofs.Measured as laws
 use Rattle.query.proofs.+measure.Goals as goal
-use Rattle.query.proofs.+measure.Goals.{After-after-rest, In-Formula}
+use Rattle.query.proofs.+measure.Goals.{In_ok-token}
 
 -- The question is its token and what is after it, which is shorter.
-front : {t : ℕ} (c : After-after-rest t) → c.args.q.now ≡ get_or c.args.q.now 0 0 ∷ c.after-rest.result.now
-front c = laws.token-rest _ _ c.if-q-eq0.false c.after-rest.ensures
+front : {t : ℕ} (c : In_ok-token t) → c.args.q.now ≡ token_byte c.in_ok-token.token ∷ c.in_ok-t.rest.now
+front c = c.in_ok-t.ensures.cases.0 ∙ ap (λ (b : ℕ). b ∷ c.in_ok-t.rest.now) (sym (token_of c.try_from.result c.try_from.ensures c.in_ok-token.ensures.value))
 
-fall : {t : ℕ} (c : After-after-rest t) → length c.after-rest.result.now ≤ 99
-fall c = omega (arith, ap length (front c), c.requires)
+fall : {t : ℕ} (c : In_ok-token t) → length c.in_ok-t.rest.now ≤ 99
+fall c = omega (arith, c.in_ok-t.ensures.cases.1, c.requires)
 
--- The size of the first of two operands.
-left : {t : ℕ} (c : In-Formula t) → Sized c.args.n c.args.sign c.after-rest.result.now c.in-Formula.y
-left c = rw c.in-Formula.is at c.measure-l.ensures
+-- "and" and "or" have a byte each.
+pair_of : {k : Token} → (k ≡ And) ⊎ (k ≡ Or) → (b : Bool) × (token_byte k ≡ pair_byte b)
+pair_of (inl e) = (true, ap token_byte e)
+pair_of (inr e) = (false, ap token_byte e)
 
-pub returns-then-q-eq0 : goal.returns-then-q-eq0
-returns-then-q-eq0 t c = laws.nothing-empty c.args.q.now c.if-q-eq0.true
+all-after : (k : ℕ) (q : List ℕ) → take (length q - k) (drop k q) ≡ drop k q
+all-after k q = take_all (length q - k) (drop k q) (omega (arith, length-drop k q))
 
-pub negated-requires : goal.negated-requires
-negated-requires t c =
-    laws.measured_brief c.args.n (not c.args.sign) c.after-rest.result.now c.measure.result (fall (goal.at.negated-requires t c).After-after-rest) c.measure.ensures
+pub returns-in_err-t : goal.returns-in_err-t
+returns-in_err-t t c = rw c.from_residual.ensures (laws.nothing-empty c.args.q.now c.in_err-t.ensures.cases)
 
-pub returns-in_default : goal.returns-in_default
-returns-in_default t c =
-    rw (front (goal.at.returns-in_default t c).After-after-rest) (laws.nothing_left _ (omega arith) (omega arith) c.after-rest.result.now (rw c.in_default.is at c.measure-l.ensures))
+pub returns-in_err-token : goal.returns-in_err-token
+returns-in_err-token t c = rw (c.from_residual-in_err-token.ensures, c.in_ok-t.ensures.cases.0) (nothing_unknown _ _ (no_token c.try_from.result c.try_from.ensures c.in_err-token.ensures.value))
+
+pub returns-in_err-z-in-Not : goal.returns-in_err-z-in-Not
+returns-in_err-z-in-Not t c = rw (c.from_residual-in_err-z-in-Not.ensures, front (goal.at.returns-in_err-z-in-Not t c).In_ok-token, c.in-Not.is) (laws.nothing-not _ c.in_err-z-in-Not.ensures)
+
+pub longer-requires : goal.longer-requires
+longer-requires t c = laws.sized-short (fall (goal.at.longer-requires t c).In_ok-token) c.in_ok-z-in-Not.ensures
+
+pub returns-in_ok-z-in-Not : goal.returns-in_ok-z-in-Not
+returns-in_ok-z-in-Not t c = rw (front (goal.at.returns-in_ok-z-in-Not t c).In_ok-token, c.in-Not.is) (laws.sized-not c.in_ok-z-in-Not.ensures c.longer.ensures)
+
+pub returns-in_err-y-in-And : goal.returns-in_err-y-in-And
+returns-in_err-y-in-And t c =
+    let p = pair_of c.in-And.is in
+    rw (c.from_residual-in_err-y-in-And.ensures, front (goal.at.returns-in_err-y-in-And t c).In_ok-token, p.1) (laws.nothing_left p.0 _ c.in_err-y-in-And.ensures)
+
+pub returns-in_err-z-in-And : goal.returns-in_err-z-in-And
+returns-in_err-z-in-And t c =
+    let p = pair_of c.in-And.is in
+    rw (c.from_residual-in_err-z-in-And.ensures, front (goal.at.returns-in_err-z-in-And t c).In_ok-token, p.1) (laws.nothing_right p.0 _ c.in_ok-y-in-And.ensures (rw all-after at c.in_err-z-in-And.ensures))
 
 pub paired-requires : goal.paired-requires
 paired-requires t c =
-    let f = fall (goal.at.paired-requires t c).After-after-rest in
-    let l = ap length c.after.ensures ∙ length-drop c.in-Formula.y.used c.after-rest.result.now in
-    ((laws.sized-short f (left (goal.at.paired-requires t c).In-Formula), laws.measured_brief c.args.n c.args.sign c.after.result.now c.measure-in-3.result (omega (arith, f, l)) c.measure-in-3.ensures), (omega arith, omega arith))
+    let f = fall (goal.at.paired-requires t c).In_ok-token in
+    (laws.sized-short f c.in_ok-y-in-And.ensures, laws.sized-short (omega (arith, f, length-drop c.in_ok-y-in-And.y.used c.in_ok-t.rest.now)) (rw all-after at c.in_ok-z-in-And.ensures))
+
+pub returns-in_err-measure-in-Possibly : goal.returns-in_err-measure-in-Possibly
+returns-in_err-measure-in-Possibly t c = rw (c.from_residual-in_err-measure-in-Possibly.ensures, front (goal.at.returns-in_err-measure-in-Possibly t c).In_ok-token, c.in-Possibly.is) (laws.nothing-modal true _ c.in_err-measure-in-Possibly.ensures)
 
 pub modal-requires : goal.modal-requires
-modal-requires t c =
-    (laws.measured_brief c.args.n (eqb (get_or c.args.q.now 0 0) 5) c.after-rest.result.now c.measure-in-5.result (fall (goal.at.modal-requires t c).After-after-rest) c.measure-in-5.ensures, (omega arith, omega arith))
+modal-requires t c = laws.sized-short (fall (goal.at.modal-requires t c).In_ok-token) c.in_ok-measure-in-Possibly.ensures
 
-pub returns-in-2 : goal.returns-in-2
-returns-in-2 t c = rw (front (goal.at.returns-in-2 t c).After-after-rest, c.in-2.is) (c.negated.ensures _ _ _ c.measure.ensures)
+pub returns-in_err-measure-in-Always : goal.returns-in_err-measure-in-Always
+returns-in_err-measure-in-Always t c = rw (c.from_residual-in_err-measure-in-Always.ensures, front (goal.at.returns-in_err-measure-in-Always t c).In_ok-token, c.in-Always.is) (laws.nothing-modal false _ c.in_err-measure-in-Always.ensures)
 
-pub returns-in-5 : goal.returns-in-5
-returns-in-5 t c = rw (front (goal.at.returns-in-5 t c).After-after-rest) (c.modal.ensures _ _ c.measure-in-5.ensures)
+pub modal-requires-in-Always : goal.modal-requires-in-Always
+modal-requires-in-Always t c = laws.sized-short (fall (goal.at.modal-requires-in-Always t c).In_ok-token) c.in_ok-measure-in-Always.ensures
+
+-- A token that is no sign.
+pub leaf-requires : goal.leaf-requires
+leaf-requires t c = rw (token_of c.try_from.result c.try_from.ensures c.in_ok-token.ensures.value) at (no_sign c.in-Range.is)
+
+pub returns-in-Range : goal.returns-in-Range
+returns-in-Range t c = rw c.in_ok-t.ensures.cases.0 c.leaf.ensures

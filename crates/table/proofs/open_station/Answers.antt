@@ -22,7 +22,7 @@ pub overflow_add-from : goal.overflow_add-from
 overflow_add-from c = omega (arith, before-it c)
 
 pub put_slot-requires : goal.put_slot-requires
-put_slot-requires c = let p = c.requires in (rw c.report_size.ensures.0 p.1, omega (arith, c.slot.ensures.1, p.2))
+put_slot-requires c = let p = c.requires in (rw c.report_size.ensures.0 p.1, omega (arith, c.slot.ensures.1))
 
 pub returns : goal.returns
 returns c = let a = c.args in c.put_slot.ensures ∙ ap₂ (λ (x w : ℕ). put_of a.store.now x (report_bytes a.panelled (drop (a.j * w + 2) a.frame.now) ++ replicate limits.stations 0)) c.slot.ensures.0 c.report_size.ensures.0

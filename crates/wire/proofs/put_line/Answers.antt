@@ -1,11 +1,8 @@
 -- The digits of the frame, those of its check byte and 0A are put one after another.
-use Rattle.std.proofs.Common.{refl, ◌∙◌, arith, length-set}
+use Rattle.std.proofs.Common.{refl, arith}
 use Rattle.codec.proofs.Lines.{length-line}
 use Rattle.wire.proofs.Hexes.{put-line-is}
 use Rattle.wire.proofs.put_line.Goals as goal
-
-pub shape_of-out : goal.shape_of-out
-shape_of-out c = simp length-set (c.put_byte.auto.out ∙ c.put_hex.auto.out)
 
 pub returns : goal.returns
 returns c = (

@@ -1,16 +1,10 @@
-use Rattle.std.proofs.Common.{ℕ, ◌%◌, List, refl, ap, ◌∙◌, add-one, arith, take_all}
-use Rattle.model.specs.Lists.{sum, total}
-use Rattle.lattice.proofs.Sums.{total-suc}
+use Rattle.std.proofs.Common.{◌+◌, ◌%◌, ◌∙◌, rules, tests}
+use Rattle.std.proofs.lemmas.Iterator.{YieldsList-from_slice}
+use Rattle.std.proofs.lemmas.Iterator.Consumers.{fold_from_yields_List}
+use Rattle.wire.proofs.Hexes.{sum_fold}
 use Rattle.wire.proofs.sum.Goals as goal
 
-pub loop-k-init : goal.loop-k-init
-unfolding sum
-loop-k-init c = (omega arith, refl)
-
-pub loop-k-preserved : goal.loop-k-preserved
-loop-k-preserved c =
-    let s = c.args.s.now in
-    (omega arith, rw add-one (omega (arith, c.wrapping_add_u8-t.ensures, total-suc s c.loop-k.k)))
-
 pub returns : goal.returns
-returns c = c.loop-k.invariant.1 ∙ ap (λ (l : List ℕ). total l % 256) (take_all _ _ c.loop-k-test.false)
+returns c =
+    let s = c.args.s.now in
+    fold_from_yields_List _ (λ t b. (t + b) % 256) 0 c.fold.result c.fold.ensures.ran (YieldsList-from_slice s cc) (λ t b u q k. search (rules, tests)) ∙ sum_fold s

@@ -1,5 +1,5 @@
 -- The line of the frame that was made. Assumes nothing.
-use mathlib.Core.Path.{refl, sym, ◌∙◌}
+use mathlib.Core.Path.{sym, ◌∙◌}
 use Prim.Native.Nat.{◌≤◌}
 use native.Mathlib.Nat.{zero-add}
 use native.Mathlib.Omega.{arith}
@@ -12,15 +12,11 @@ use Rattle.write_beside.proofs.Lines.{line-room, line-put}
 use Rattle.write_beside.proofs.put_header.Goals as goal
 use Rattle.write_beside.proofs.put_header.Goals.{After-merged_header-k}
 
-pub merged_header-k-requires : goal.merged_header-k-requires
-unfolding report_size
-merged_header-k-requires c = (c.requires.headers, refl)
-
 inside : (c : After-merged_header-k) → c.merged_header-k.result ≤ length c.merged_header-k.new.frame
 unfolding report_size
 inside c =
     let m = c.merged_header-k in
-    omega (arith, m.ensures.0, m.auto.frame, header_fits c.requires.headers)
+    omega (arith, m.ensures.0, header_fits c.requires.headers)
 
 pub slice_bounds-frame-end : goal.slice_bounds-frame-end
 slice_bounds-frame-end c = inside (goal.at.slice_bounds-frame-end c).After-merged_header-k

@@ -1,57 +1,46 @@
-use mathlib.Core.Path.{◌≡◌, sym, ◌∙◌}
-use mathlib.Core.List.{List}
-use Prim.Native.Nat.{ℕ, ◌+◌, ◌-◌}
-use native.Mathlib.Omega.{arith}
-use lib.ListN.{get_or, take, drop}
-use Rattle.codec.proofs.Entries.{part}
+use Rattle.std.proofs.Common.{◌≡◌, ◌∙◌, sym, get_or, arith}
 use Rattle.write_beside.specs.Moved.{kind}
-use Rattle.write_beside.proofs.Walks.{walked_none, walked_length, walked_all, Meets, entry, frame-length, frame-kind, fits-here, room-here, walked_more, walked_past}
+use Rattle.write_beside.proofs.Walks.{walked_none, walked_all, Meets, low, room, fits-here, room-here, walked_more, walked_past}
 use Rattle.write_beside.proofs.put_part.Goals as goal
-use Rattle.write_beside.proofs.put_part.Goals.{After-wide-k}
+use Rattle.write_beside.proofs.put_part.Goals.{After-from-in-Some, After-split_at, Then-frame-own}
 
-pub loop-from-init : goal.loop-from-init
-loop-from-init c =
+pub loop-size-init : goal.loop-size-init
+loop-size-init c =
     walked_none c.args.part c.args.side c.args.list.now c.args.out.now c.args.at c.requires.covered.1 c.requires.all c.requires.list_in_bounds
 
--- The frame at the place, as a part of the list.
-abbrev frame : After-wide-k → List ℕ
-frame c = take (c.loop-from.from + 1 + c.wide-k.result - (c.loop-from.from + 1)) (drop (c.loop-from.from + 1) c.args.list.now)
+meets : (c : After-from-in-Some) → let a = c.args in let l = c.loop-size in Meets a.part a.side a.list.now a.out.now a.at l.out l.rest.now l.end c.from-in-Some.result c.in-Some.behind.now
+meets c = record { walked = c.loop-size.invariant; splits = rw c.from-in-Some.ensures c.in-Some.ensures.cases.0 }
 
-meets : (c : After-wide-k) → let a = c.args in let l = c.loop-from in Meets a.part a.side a.list.now a.out.now a.at l.out l.from l.end c.wide-k.result (frame c)
-meets c = record { walked = c.loop-from.invariant; before = c.loop-from-test.true; size = c.wide-k.ensures.0; same = part c.args.list.now c.loop-from.from c.wide-k.result }
+pub split_at-requires : goal.split_at-requires
+split_at-requires c = room (meets (goal.at.split_at-requires c).After-from-in-Some)
 
-pub bounds-list-a : goal.bounds-list-a
-bounds-list-a c = let e = entry (meets (goal.at.bounds-list-a c).After-wide-k) in omega (arith, e.low, e.room)
+pub bounds-frame-0 : goal.bounds-frame-0
+bounds-frame-0 c = omega (arith, low (meets (goal.at.bounds-frame-0 c).After-from-in-Some), c.split_at.ensures.front_len)
 
 -- It is of the part.
-own : (c : After-wide-k) → get_or c.args.list.now (c.loop-from.from + 1) 0 ≡ c.kind-own.result → get_or (frame c) 0 0 ≡ kind c.args.part
-own c e = frame-kind (meets c) ∙ e ∙ c.kind-own.ensures
-
-pub slice_bounds-put_moved-end : goal.slice_bounds-put_moved-end
-slice_bounds-put_moved-end c = let e = entry (meets (goal.at.slice_bounds-put_moved-end c).After-wide-k) in omega (arith, e.room)
+own : (c : Then-frame-own) → get_or c.split_at.result.0.now 0 0 ≡ kind c.args.part
+own c = c.if-frame-own.true ∙ c.from-own.ensures ∙ c.from.ensures
 
 pub put_moved-end-requires : goal.put_moved-end-requires
 put_moved-end-requires c =
-    let m = meets (goal.at.put_moved-end-requires c).After-wide-k in
-    let e = entry m in
-    let k = own (goal.at.put_moved-end-requires c).After-wide-k c.if-list-a.true in
-    record { covered = (c.requires.covered.0, omega (arith, e.low, frame-length m), k, fits-here m k); frame_in_bounds = room-here m k }
+    let m = meets (goal.at.put_moved-end-requires c).After-from-in-Some in
+    let o = own (goal.at.put_moved-end-requires c).Then-frame-own in
+    let e = c.split_at.ensures in
+    let k = rw e.front at o in
+    record { covered = (c.requires.covered.0, omega (arith, low m, e.front_len), o, rw e.front (fits-here m k)); frame_in_bounds = rw e.front (room-here m k) }
 
-pub loop-from-smaller-then-list-a : goal.loop-from-smaller-then-list-a
-loop-from-smaller-then-list-a c = let e = entry (meets (goal.at.loop-from-smaller-then-list-a c).After-wide-k) in omega (arith, c.loop-from-test.true)
+pub loop-size-preserved-then-frame-own : goal.loop-size-preserved-then-frame-own
+loop-size-preserved-then-frame-own c =
+    let e = c.split_at.ensures in
+    let k = rw e.front at (own (goal.at.loop-size-preserved-then-frame-own c).Then-frame-own) in
+    let p = rw e.front at c.put_moved-end.ensures in
+    rw e.back (walked_more (meets (goal.at.loop-size-preserved-then-frame-own c).After-from-in-Some) k _ _ p.0 p.1)
 
-pub loop-from-preserved-then-list-a : goal.loop-from-preserved-then-list-a
-loop-from-preserved-then-list-a c = let p = c.put_moved-end.ensures in walked_more (meets (goal.at.loop-from-preserved-then-list-a c).After-wide-k) (own (goal.at.loop-from-preserved-then-list-a c).After-wide-k c.if-list-a.true) _ _ p.0 p.1
-
-pub loop-from-smaller : goal.loop-from-smaller
-loop-from-smaller c = let e = entry (meets (goal.at.loop-from-smaller c).After-wide-k) in omega (arith, c.loop-from-test.true)
-
-pub loop-from-preserved : goal.loop-from-preserved
-loop-from-preserved c = let m = meets (goal.at.loop-from-preserved c).After-wide-k in walked_past m (λ z. c.if-list-a.false (sym (frame-kind m) ∙ z ∙ sym c.kind-own.ensures))
-
-pub shape_of-out : goal.shape_of-out
-shape_of-out c = walked_length c.loop-from.invariant
+pub loop-size-preserved : goal.loop-size-preserved
+loop-size-preserved c =
+    let e = c.split_at.ensures in
+    rw e.back (walked_past (meets (goal.at.loop-size-preserved c).After-from-in-Some) (λ z. c.if-frame-own.false (rw e.front z ∙ sym c.from.ensures ∙ sym c.from-own.ensures)))
 
 pub returns : goal.returns
-returns c = let r = walked_all c.loop-from.invariant c.loop-from-test.false in
+returns c = let r = walked_all c.loop-size.invariant c.in_default.ensures.cases in
     record { value = r.0; out_after = r.1 }

@@ -1,13 +1,11 @@
 -- The length is that of the form, and then the station decides. Assumes nothing.
-use native.Mathlib.Omega.{arith}
-use Rattle.admit.proofs.Events.{wrong-length, by_station}
+use mathlib.Core.Path.{◌∙◌}
+use borrow.Author.Tests.{ne_eqb}
+use Rattle.admit.proofs.Events.{wrong_length, by_station}
 use Rattle.admit.proofs.event.well_formed.Goals as goal
 
-pub returns-then-frame-before : goal.returns-then-frame-before
-returns-then-frame-before c = let a = c.args in wrong-length a.s.panelled a.s.stations _ c.report_size-before.ensures.0 a.frame.now c.requires (λ e. let x = c.if-frame-before.true in omega arith)
+pub returns-then-frame-before-clause-value : goal.returns-then-frame-before-clause-value
+returns-then-frame-before-clause-value c = let a = c.args in by_station a.s.panelled a.s.stations _ c.report_size-before.ensures.0 a.frame.now c.requires.0 c.if-frame-before.true _ c.from.ensures
 
-pub returns-then-frame-before-2 : goal.returns-then-frame-before-2
-returns-then-frame-before-2 c = let a = c.args in wrong-length a.s.panelled a.s.stations _ c.report_size-before.ensures.0 a.frame.now c.requires (λ e. c.if-frame-before-2.true (omega arith))
-
-pub returns : goal.returns
-returns c = let a = c.args in by_station a.s.panelled a.s.stations _ c.report_size-before.ensures.0 a.frame.now c.requires (let x = c.if-frame-before.false in let y = c.if-frame-before-2.false in omega arith) _ c.wide.ensures.0
+pub returns-else-frame-before-clause-value : goal.returns-else-frame-before-clause-value
+returns-else-frame-before-clause-value c = let a = c.args in ne_eqb _ _ c.if-frame-before.false ∙ wrong_length a.s.panelled a.s.stations _ c.report_size-before.ensures.0 a.frame.now c.requires.0 c.if-frame-before.false

@@ -1,16 +1,12 @@
 -- The step follows from what `admit` ensures, and the list from what `put_entry` does. Assumes nothing.
-use Rattle.load.proofs.Loads.{tries_next, tries_faulty}
 use native.Mathlib.Omega.{arith}
+use Rattle.std.proofs.lemmas.Result.{err_from_is_err_and}
+use Rattle.load.proofs.Loads.{tries_next, tries_faulty}
 use Rattle.load.proofs.lines.load_frame.Goals as goal
 
-pub overflow_add-after-in-Next : goal.overflow_add-after-in-Next
-overflow_add-after-in-Next c = omega (arith, c.requires.in_bounds.2, c.requires.in_bounds.3)
+pub returns-in_err-state : goal.returns-in_err-state
+returns-in_err-state c = let r = err_from_is_err_and c.from_residual.result c.from_residual.ensures.1 in
+    rw (r.1, r.2) (tries_faulty _ c.in_err-state.ensures)
 
-pub overflow_add-after-in-Next-2 : goal.overflow_add-after-in-Next-2
-overflow_add-after-in-Next-2 c = omega (arith, c.requires.in_bounds.2, c.requires.in_bounds.3)
-
-pub returns-in-Next : goal.returns-in-Next
-returns-in-Next c = tries_next _ c.admit-tried.ensures _ _ c.in-Next.is c.requires.in_bounds.2 c.put_entry.ensures c.admit-tried.auto.store
-
-pub returns-in-Faulty : goal.returns-in-Faulty
-returns-in-Faulty c = tries_faulty _ c.admit-tried.ensures _ c.requires.no_larger.1 c.in-Faulty.is c.admit-tried.auto.store
+pub returns : goal.returns
+returns c = tries_next _ c.in_ok-state.ensures _ _ (omega (arith, c.requires.in_bounds, c.told-list)) c.put_entry.ensures

@@ -1,23 +1,14 @@
 -- `write_beside::frames::put_event` meets its contract: the line of the event that was made at the front of the array. Assumes nothing.
-use mathlib.Core.Path.{◌≡◌, refl, sym, ap, ◌∙◌}
+use mathlib.Core.Path.{sym, ap, ◌∙◌}
 use native.Mathlib.Omega.{arith}
 use lib.ListN.{length}
 use Rattle.model.specs.Reading.{report_size}
-use Rattle.write_beside.specs.Moved.{event_size}
 use Rattle.write_beside.proofs.Lines.{line-room, line-put}
 use Rattle.write_beside.proofs.frames.put_event.Goals as goal
-use Rattle.write_beside.proofs.frames.put_event.Goals.{After-moved_event-k}
-
-length-made : (c : After-moved_event-k) → length c.moved_event-k.new.event ≡ event_size
-unfolding report_size
-length-made c = c.moved_event-k.auto.event
-
-pub moved_event-k-requires : goal.moved_event-k-requires
-unfolding report_size
-moved_event-k-requires c = (c.requires.covered.0, c.requires.covered.1, refl)
 
 pub slice_bounds-event-end : goal.slice_bounds-event-end
-slice_bounds-event-end c = omega (arith, c.moved_event-k.ensures.0, length-made (goal.at.slice_bounds-event-end c).After-moved_event-k, c.requires.covered.1.2)
+unfolding report_size
+slice_bounds-event-end c = omega (arith, c.moved_event-k.ensures.0, c.requires.covered.1.2)
 
 pub slice_bounds-put_line-end : goal.slice_bounds-put_line-end
 slice_bounds-put_line-end c = c.moved_event-k.ensures.0 ∙ ap length (sym c.moved_event-k.ensures.1)

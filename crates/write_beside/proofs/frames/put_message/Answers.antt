@@ -27,5 +27,5 @@ put_line-requires c = line-room _ _ (message_is c.args.side c.args.frame.now) _ 
 
 pub returns : goal.returns
 returns c =
-    let l = c.put_line.ensures in
+    let l = rw c.from.ensures at c.put_line.ensures in
     line-put _ _ (message_is c.args.side c.args.frame.now) c.args.at c.args.out.now _ _ l.0 l.1
