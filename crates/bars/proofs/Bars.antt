@@ -149,12 +149,7 @@ module _ (n i j o k m : ℕ) (b b₁ b₂ b₃ : List ℕ) (z : 0 < n) (hi : i +
         front = front_same (o + (k * n + m * n)) b₃ b₂ both-front o (omega arith) ∙ front_same (o + k * n) b₂ b₁ front₂ o (omega arith) ∙ front₁;
       }
 
--- The ends of the count.
-pub count-start : (n at : ℕ) (b : List ℕ) → length (bars_at n 16 (drop at b)) ≡ 0 + length (bars_at n 16 (drop (at + 0 * n) b))
-count-start n at b =
-    let o : at ≡ at + 0 * n = omega arith in
-    omega (arith, ap (λ (x : ℕ). length (bars_at n 16 (drop x b))) o)
-
+-- The end of the count.
 pub count_all : (n at i : ℕ) (b : List ℕ) (k : ℕ) → i ≡ 16 → k ≡ i + length (bars_at n (16 - i) (drop (at + i * n) b)) → i ≡ k
 unfolding bars_at
 count_all n at i b k e h = omega (arith, ap (λ (x : ℕ). length (bars_at n x (drop (at + i * n) b))) (let o : 16 - i ≡ 0 = omega arith in o))

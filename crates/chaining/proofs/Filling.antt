@@ -1,13 +1,13 @@
 -- Laws of the loop over the events: after those from the last down to k + 1 the table has their entries.
 use mathlib.Core.Path.{◌≡◌, refl, sym, ap, ◌∙◌}
-use Prim.Native.Nat.{ℕ, suc, ◌+◌, ◌*◌, ◌-◌, ◌≤◌, ◌<◌}
+use Prim.Native.Nat.{ℕ, suc, ◌*◌, ◌-◌, ◌≤◌, ◌<◌}
 use native.Mathlib.Omega.{arith}
 use native.Mathlib.Decide.{ℕ_discrete}
 use mathlib.Core.Bool.{Bool, true, false, cond}
 use mathlib.Core.List.{List}
 use mathlib.Core.Option.{Option, none, some}
-use lib.ListN.{length, set, replicate, length-set}
-use lib.Seq.{paste, length-paste, get_or-set_same, get_or-set_other}
+use lib.ListN.{length, get_or, set, replicate}
+use lib.Seq.{paste, get_or-set_same, get_or-set_other}
 use borrow.Author.Tests.{eq-eqb, ne_eqb}
 use Rattle.model.specs.Cut.{Cut}
 use Rattle.model.specs.Computation.{Computation, count}
@@ -19,51 +19,24 @@ use Rattle.slots.specs.Slots.{number, Small}
 use Rattle.numbering.proofs.Numbers.{number-le, number_same}
 use Rattle.picking.specs.Rows.{row_of}
 use Rattle.picking.proofs.Reading.{row_new, row_old}
-use Rattle.chaining.specs.Table.{Chain, chain_of, above_of, under_of, rounds_of, Tells, Stands, Chained, Low, Wrote}
+use Rattle.chaining.specs.declared.Chain.{Chain}
+use Rattle.chaining.specs.Table.{above_of, under_of, rounds_of, Tells, Stands, Chained, Low, Wrote}
 
 -- WRITING
 
--- A row written to a table.
-pub row-size : (table table₂ a : List ℕ) (v : ℕ) → length table ≡ 2048 → v < 256 → length a ≡ 8 → table₂ ≡ paste table (v * 8) a 8 → length table₂ ≡ length table
-row-size table table₂ a v l h m e = ap length e ∙ length-paste table (v * 8) a 8 (omega arith) (omega arith)
-
-module _ (above under marks a u above₂ under₂ : List ℕ) (v : ℕ) (la : length above ≡ 2048) (lu : length under ≡ 2048) (lm : length marks ≡ 512) (lv : v < 256) (l8 : length a ≡ 8) (m8 : length u ≡ 8)
-    (ea : above₂ ≡ paste above (v * 8) a 8) (eu : under₂ ≡ paste under (v * 8) u 8) where
-  rows_old : (i : ℕ) → (i ≡ v → ⊥) → (row_of above₂ i ≡ row_of above i) × (row_of under₂ i ≡ row_of under i)
-  rows_old i f = (ap (λ (t : List ℕ). row_of t i) ea ∙ row_old above a v la lv l8 i f, ap (λ (t : List ℕ). row_of t i) eu ∙ row_old under u v lu lv m8 i f)
-
-  pub wrote : (r : ℕ) → Wrote v a u r (chain_of above under marks) (chain_of above₂ under₂ (set marks (256 + v) r))
-  wrote r = record {
-    above_size = row-size above above₂ a v la lv l8 ea;
-    under_size = row-size under under₂ u v lu lv m8 eu;
-    marks_size = length-set marks (256 + v) r;
-    above_is = ap (λ (t : List ℕ). row_of t v) ea ∙ row_new above a v la lv l8;
-    under_is = ap (λ (t : List ℕ). row_of t v) eu ∙ row_new under u v lu lv m8;
-    rounds_is = get_or-set_same marks (256 + v) r 0 (omega arith);
-    others = λ i f. let o = rows_old i f in (o.0, o.1, get_or-set_other marks (256 + v) (256 + i) r 0 (λ e. f (omega arith)));
-    picks = λ i h. get_or-set_other marks (256 + v) i r 0 (λ e. omega arith);
-  }
-
-  -- Both rows, and then the whole entry in their place.
-  pub wrote_over : (a₂ u₂ : List ℕ) (r : ℕ) (chain₂ : Chain) → Wrote v a₂ u₂ r (chain_of above₂ under₂ marks) chain₂ → Wrote v a₂ u₂ r (chain_of above under marks) chain₂
-  wrote_over a₂ u₂ r chain₂ w = record {
-    above_size = w.above_size ∙ row-size above above₂ a v la lv l8 ea;
-    under_size = w.under_size ∙ row-size under under₂ u v lu lv m8 eu;
-    marks_size = w.marks_size;
-    above_is = w.above_is;
-    under_is = w.under_is;
-    rounds_is = w.rounds_is;
-    others = λ i f. let o = w.others i f in let p = rows_old i f in (o.0 ∙ p.0, o.1 ∙ p.1, o.2);
-    picks = w.picks;
-  }
-
-pub under-length : (t : Bool) (a b : List ℕ) → length a ≡ 8 → length b ≡ 8 → length (cond t a b) ≡ 8
-under-length true a b h l = h
-under-length false a b h l = l
-
--- The same, said of what was written.
-pub wrote_itself : (v : ℕ) (a u : List ℕ) (r : ℕ) (chain chain₂ : Chain) → Wrote v a u r chain chain₂ → Wrote v (above_of chain₂ v) (under_of chain₂ v) (rounds_of chain₂ v) chain chain₂
-wrote_itself v a u r chain chain₂ w = record { above_size = w.above_size; under_size = w.under_size; marks_size = w.marks_size; above_is = refl; under_is = refl; rounds_is = refl; others = w.others; picks = w.picks }
+-- An entry put at place v.
+pub wrote : (chain chain₂ : Chain) (v : ℕ) (a u : List ℕ) (r : ℕ) → length chain.above ≡ 2048 → length chain.under ≡ 2048 → length chain.rounds ≡ 256 → v < 256 → length a ≡ 8 → length u ≡ 8
+    → chain₂.above ≡ paste chain.above (v * 8) a 8 → chain₂.under ≡ paste chain.under (v * 8) u 8 → chain₂.rounds ≡ set chain.rounds v r → Wrote v a u r chain chain₂
+wrote chain chain₂ v a u r la lu lr h l m ea eu er = record {
+  above_is = ap (λ (t : List ℕ). row_of t v) ea ∙ row_new chain.above a v la h l;
+  under_is = ap (λ (t : List ℕ). row_of t v) eu ∙ row_new chain.under u v lu h m;
+  rounds_is = ap (λ (t : List ℕ). get_or t v 0) er ∙ get_or-set_same chain.rounds v r 0 (omega arith);
+  others = λ i f. (
+    ap (λ (t : List ℕ). row_of t i) ea ∙ row_old chain.above a v la h l i f,
+    ap (λ (t : List ℕ). row_of t i) eu ∙ row_old chain.under u v lu h m i f,
+    ap (λ (t : List ℕ). get_or t i 0) er ∙ get_or-set_other chain.rounds v i r 0 f,
+  );
+}
 
 -- THE TABLE
 
@@ -79,7 +52,7 @@ module _ (v : ℕ) (above under : List ℕ) (r : ℕ) (chain chain₂ : Chain) (
   stands-new : (K : Computation) (e : Entry) → (v ≡ 0 → ⊥) → Tells K (some e) above under r → Stands K chain₂ v (some e)
   stands-new K e f h = (f, rw (w.above_is, w.under_is, w.rounds_is) h)
 
-  pub low-more : (m n : ℕ) → Low m chain.marks → r ≤ n → m ≤ n → Low n chain₂.marks
+  pub low-more : (m n : ℕ) → Low m chain → r ≤ n → m ≤ n → Low n chain₂
   low-more m n h l g i = go (ℕ_discrete i v)
     where
       go : Dec (i ≡ v) → rounds_of chain₂ i ≤ n
@@ -139,7 +112,7 @@ module _ (K : Computation) (A B : Structure) (b : Bool) (s : ℕ) where
   }
 
   -- None is done, of tables with nothing to look up at place 0 and the entry for no event found.
-  pub filled_none : (k r : ℕ) (chain chain₂ : Chain) → above_of chain 0 ≡ replicate 8 0 → under_of chain 0 ≡ replicate 8 0 → Low 0 chain.marks
+  pub filled_none : (k r : ℕ) (chain chain₂ : Chain) → above_of chain 0 ≡ replicate 8 0 → under_of chain 0 ≡ replicate 8 0 → Low 0 chain
       → Wrote 255 (replicate 8 255) (replicate 8 255) r chain chain₂ → r ≡ cond b 0 1 → k ≡ count K s → Filled K A B b s k chain₂
   filled_none k r chain chain₂ za zu zr w er q = record {
     rests = stands_kept 255 (replicate 8 255) (replicate 8 255) r chain chain₂ w K 0 none (λ y. omega arith) (refl, (za, zu, omega (arith, zr 0)));

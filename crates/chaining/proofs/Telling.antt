@@ -3,7 +3,8 @@ use mathlib.Core.Path.{◌≡◌, refl, sym, ap, ◌∙◌, subst}
 use Prim.Native.Nat.{ℕ, suc, ◌+◌, ◌≤◌, ◌<◌}
 use native.Mathlib.Omega.{arith}
 use native.Mathlib.Decide.{ℕ_discrete}
-use mathlib.Core.Bool.{Bool, true, false, cond}
+use mathlib.Core.Bool.{Bool, true, false, cond, not}
+use Rattle.std.specs.Int.{from_bool}
 use mathlib.Core.List.{List}
 use mathlib.Core.Option.{Option, none, some}
 use lib.Dec.{eqb}
@@ -24,7 +25,8 @@ use Rattle.cells.proofs.Cuts.{join_zeros, join_comm}
 use Rattle.slots.specs.Slots.{number, Small, Coded, Says}
 use Rattle.numbering.proofs.Numbers.{number-le, says_none, says_some, join-says}
 use Rattle.picking.specs.Formed.{pick_of, Picks}
-use Rattle.chaining.specs.Table.{above_of, under_of, rounds_of, sought, Tells, Stands, Reaches, Comes, Chain, Chained, Given}
+use Rattle.chaining.specs.Table.{above_of, under_of, rounds_of, sought, Tells, Stands, Reaches, Comes, Chained, Given}
+use Rattle.chaining.specs.declared.Chain.{Chain}
 
 -- JOINS
 
@@ -168,16 +170,7 @@ pub least-le : (b : Bool) → cond b 0 1 ≤ 1
 least-le true = omega arith
 least-le false = omega arith
 
--- Marks whose first half is the same.
-pub picks_kept : (K : Computation) (A : Structure) (s : ℕ) (marks marks₂ : List ℕ) → Small K → ((i : ℕ) → i < 256 → get_or marks₂ i 0 ≡ get_or marks i 0) → Picks K s A marks → Picks K s A marks₂
-picks_kept K A s marks marks₂ m same p k h = same (number K s k) (omega (arith, number-le K s k h, m.few_events)) ∙ p k h
-
-pub given_kept : (K : Computation) (A B : Structure) (s : ℕ) (marks marks₂ table first : List ℕ) → ((i : ℕ) → i < 256 → get_or marks₂ i 0 ≡ get_or marks i 0) → Given K A B s marks table first → Given K A B s marks₂ table first
-given_kept K A B s marks marks₂ table first same g = record {
-  small = g.small;
-  good = g.good;
-  of_station = g.of_station;
-  picks_are = picks_kept K A s marks marks₂ g.small same g.picks_are;
-  slots_are = g.slots_are;
-  clocks_are = g.clocks_are;
-}
+-- One more unless b holds.
+pub unless : (b : Bool) (r : ℕ) → r ≡ from_bool (not b) → r ≡ cond b 0 1
+unless true r e = e
+unless false r e = e

@@ -1,6 +1,5 @@
--- The tables of entries: for each number of an event the cut to join and the cut a round before, in eight cells each, and the rounds less one,
--- which stand in the second half of the marks; the first half says which entry to look up.
-use Rattle.std.specs.Prelude.{◌≡◌, ℕ, suc, ◌+◌, ◌≤◌, ◌<◌, Bool, cond, List, eqb, length, get_or, replicate}
+-- The tables of entries: for each number of an event the cut to join and the cut a round before, in eight cells each, and the rounds less one.
+use Rattle.std.specs.Prelude.{◌≡◌, ℕ, suc, ◌≤◌, Bool, cond, List, eqb, get_or, replicate}
 use Rattle.std.proofs.Math.Option.{Option, none, some}
 use Rattle.model.specs.Cut.{Cut, ◌⊑◌, join}
 use Rattle.model.specs.Computation.{Computation, count}
@@ -13,15 +12,7 @@ use Rattle.slots.specs.Slots.{number, Small, Coded, Slots}
 use Rattle.slots.specs.Pair.{Clocks}
 use Rattle.picking.specs.Formed.{Picks}
 use Rattle.picking.specs.Rows.{row_of}
-
--- The tables.
-pub record Chain : Type 0 where
-  pub above : List ℕ
-  pub under : List ℕ
-  pub marks : List ℕ
-
-abbrev pub chain_of : List ℕ → List ℕ → List ℕ → Chain
-chain_of above under marks = record { above = above; under = under; marks = marks }
+use Rattle.chaining.specs.declared.Chain.{Chain}
 
 -- What stands at place i.
 abbrev pub above_of : Chain → ℕ → List ℕ
@@ -31,7 +22,7 @@ abbrev pub under_of : Chain → ℕ → List ℕ
 under_of chain i = row_of chain.under i
 
 abbrev pub rounds_of : Chain → ℕ → ℕ
-rounds_of chain i = get_or chain.marks (256 + i) 0
+rounds_of chain i = get_or chain.rounds i 0
 
 -- What a cut with k events of s looks up, if this event is found for it: nothing if it holds the event.
 unfoldable pub sought : Bool → (ℕ → Entry) → ℕ → Option ℕ → Option Entry
@@ -68,25 +59,21 @@ pub record Chained (K : Computation) (b : Bool) (s : ℕ) (E : ℕ → Entry) (l
   pub events : (k : ℕ) → least ≤ k → k ≤ count K s → Stands K chain (number K s k) (some (E k))
 
 -- A set A of station s and any other set B, as the entries are made from them.
-pub record Given (K : Computation) (A B : Structure) (s : ℕ) (marks table first : List ℕ) : Type 0 where
+pub record Given (K : Computation) (A B : Structure) (s : ℕ) (picks table first : List ℕ) : Type 0 where
   pub small : Small K
   pub good : Good K B
   pub of_station : OfOwnRows K s A
-  pub picks_are : Picks K s A marks
+  pub picks_are : Picks K s A picks
   pub slots_are : Slots K (row B) table
   pub clocks_are : Clocks K first
 
 -- No entry has more rounds than m + 1.
-abbrev pub Low : ℕ → List ℕ → Type 0
-Low m marks = (i : ℕ) → get_or marks (256 + i) 0 ≤ m
+abbrev pub Low : ℕ → Chain → Type 0
+Low m chain = (i : ℕ) → rounds_of chain i ≤ m
 
 -- An entry was written to place v, and nothing else changed.
 pub record Wrote (v : ℕ) (above under : List ℕ) (r : ℕ) (chain chain₂ : Chain) : Type 0 where
-  pub above_size : length chain₂.above ≡ length chain.above
-  pub under_size : length chain₂.under ≡ length chain.under
-  pub marks_size : length chain₂.marks ≡ length chain.marks
   pub above_is : above_of chain₂ v ≡ above
   pub under_is : under_of chain₂ v ≡ under
   pub rounds_is : rounds_of chain₂ v ≡ r
   pub others : (i : ℕ) → (i ≡ v → ⊥) → (above_of chain₂ i ≡ above_of chain i) × (under_of chain₂ i ≡ under_of chain i) × (rounds_of chain₂ i ≡ rounds_of chain i)
-  pub picks : (i : ℕ) → i < 256 → get_or chain₂.marks i 0 ≡ get_or chain.marks i 0

@@ -6,7 +6,8 @@ use native.Mathlib.Decide.{ℕ_discrete}
 use mathlib.Core.Bool.{true, false}
 use mathlib.Core.List.{List}
 use mathlib.Core.Option.{Option, none, some}
-use lib.ListN.{get_or, take, drop, replicate}
+use lib.ListN.{length, get_or, take, drop, replicate}
+use lib.Seq.{paste}
 use Rattle.model.specs.Cut.{Cut, ◌!◌, ◌⊑◌, join}
 use Rattle.model.specs.Computation.{Computation, count, clock, event_count}
 use Rattle.model.specs.Structure.{Structure, row, joined}
@@ -17,14 +18,14 @@ use Rattle.lattice.proofs.Cuts.{trans⊑, join-left}
 use Rattle.lattice.proofs.Bases.{In, Good}
 use Rattle.lattice.proofs.Chains.{right-start, left-start}
 use Rattle.structure.specs.declared.Shape.{Shape}
-use Rattle.cells.proofs.Parts.{part_same}
 use Rattle.slots.specs.Slots.{number, Small, Says, Slots}
 use Rattle.numbering.proofs.Numbers.{number-le, says_none, says_some, join-says}
 use Rattle.slots.specs.Pair.{Above}
 use Rattle.picking.specs.Formed.{Picks}
 use Rattle.picking.specs.Rows.{row_of}
-use Rattle.picking.proofs.Reading.{slot_row}
-use Rattle.chaining.specs.Table.{chain_of, Chained, Given, Low}
+use Rattle.picking.proofs.Reading.{slot_row, row_new, row_old}
+use Rattle.chaining.specs.declared.Chain.{Chain}
+use Rattle.chaining.specs.Table.{Chained, Given}
 use Rattle.lookups.specs.Found.{Found}
 use Rattle.chains.specs.Known.{RightKnown, LeftKnown}
 
@@ -35,18 +36,18 @@ row-above K S g j k h m e = let l : Least (In K S) (λ x. clock K j k ⊑ x) (so
 -- THE RIGHT SET IS OF ONE STATION
 
 module _ (K : Computation) (S T : Structure) (x : Shape) (s from : ℕ) (ws left first : List ℕ) (k : RightKnown K S T x s from ws left first) where
-  pub right_given : (marks : List ℕ) → Picks K s T marks → Given K T S s marks left first
-  right_given marks picks = record { small = k.formed.small; good = k.good_left; of_station = k.of_station; picks_are = picks; slots_are = k.slots_left; clocks_are = k.clocks_are }
+  pub right_given : (picks : List ℕ) → Picks K s T picks → Given K T S s picks left first
+  right_given picks p = record { small = k.formed.small; good = k.good_left; of_station = k.of_station; picks_are = p; slots_are = k.slots_left; clocks_are = k.clocks_are }
 
-  pub right-found : (above under marks : List ℕ) → Picks K s T marks → Chained K true s (entries K true s (own_row T s) S (suc (count K s))) 1 (chain_of above under marks) → Found K S T s left first above under marks
-  right-found above under marks picks ch = record {
+  pub right-found : (picks : List ℕ) (chain : Chain) → Picks K s T picks → Chained K true s (entries K true s (own_row T s) S (suc (count K s))) 1 chain → Found K S T s left first picks chain
+  right-found picks chain p ch = record {
     own = T;
     other = S;
     right = true;
     rows = row S;
     small = k.formed.small;
     of_station = k.of_station;
-    picks_are = picks;
+    picks_are = p;
     chained = ch;
     cuts_are = k.slots_left;
     clocks_are = k.clocks_are;
@@ -68,19 +69,19 @@ first_above K T g s j k h (some l) m e = go (row T j k) (row T s (l ! s)) (row-a
     go (some t) (some u) a q = let z : join t u ≡ m = cc in subst (λ y. clock K j k ⊑ y) z (trans⊑ (clock K j k) t (join t u) (a t refl) (join-left t u))
 
 module _ (K : Computation) (S T : Structure) (x : Shape) (s : ℕ) (left right first : List ℕ) (k : LeftKnown K S T x s left right first) where
-  pub left_given : (marks : List ℕ) → Picks K s S marks → Given K S T s marks right first
-  left_given marks picks = record { small = k.both.small; good = k.both.good_right; of_station = k.of_station; picks_are = picks; slots_are = k.both.slots_right; clocks_are = k.clocks_are }
+  pub left_given : (picks : List ℕ) → Picks K s S picks → Given K S T s picks right first
+  left_given picks p = record { small = k.both.small; good = k.both.good_right; of_station = k.of_station; picks_are = p; slots_are = k.both.slots_right; clocks_are = k.clocks_are }
 
-  pub left-found : (cuts above under marks : List ℕ) → Slots K (λ j i. outcome_of_first_round T s j i (row S j i)) cuts → Picks K s S marks
-      → Chained K false s (entries K false s (own_row S s) T (suc (count K s))) 1 (chain_of above under marks) → Found K S T s cuts first above under marks
-  left-found cuts above under marks c picks ch = record {
+  pub left-found : (cuts picks : List ℕ) (chain : Chain) → Slots K (λ j i. outcome_of_first_round T s j i (row S j i)) cuts → Picks K s S picks
+      → Chained K false s (entries K false s (own_row S s) T (suc (count K s))) 1 chain → Found K S T s cuts first picks chain
+  left-found cuts picks chain c p ch = record {
     own = S;
     other = T;
     right = false;
     rows = λ j i. outcome_of_first_round T s j i (row S j i);
     small = k.both.small;
     of_station = k.of_station;
-    picks_are = picks;
+    picks_are = p;
     chained = ch;
     cuts_are = c;
     clocks_are = k.clocks_are;
@@ -106,26 +107,23 @@ module _ (K : Computation) (S T : Structure) (s j k i : ℕ) (left right : List 
 abbrev pub Done : Computation → (ℕ → ℕ → Option Cut) → List ℕ → ℕ → Type 0
 Done K R cuts i = (j k : ℕ) → k ≤ count K j → number K j k < i → Says K (R j k) (row_of cuts (number K j k))
 
-pub done_more : (K : Computation) (R : ℕ → ℕ → Option Cut) (cuts cuts₂ : List ℕ) (i : ℕ) → take (i * 8) cuts₂ ≡ take (i * 8) cuts
-    → ((j k : ℕ) → k ≤ count K j → i ≡ number K j k → Says K (R j k) (row_of cuts₂ i)) → Done K R cuts i → Done K R cuts₂ (i + 1)
-done_more K R cuts cuts₂ i front f g j k h q = go (ℕ_discrete (number K j k) i)
+pub done_more : (K : Computation) (R : ℕ → ℕ → Option Cut) (cuts cuts₂ cut : List ℕ) (i : ℕ) → length cuts ≡ 2048 → i < 256 → length cut ≡ 8 → cuts₂ ≡ paste cuts (i * 8) cut 8
+    → ((j k : ℕ) → k ≤ count K j → i ≡ number K j k → Says K (R j k) cut) → Done K R cuts i → Done K R cuts₂ (i + 1)
+done_more K R cuts cuts₂ cut i l h m e f g j k n q = go (ℕ_discrete (number K j k) i)
   where
+    below : (v : ℕ) → v < i + 1 → (v ≡ i → ⊥) → v < i
+    below v q z = omega arith
+
     go : Dec (number K j k ≡ i) → Says K (R j k) (row_of cuts₂ (number K j k))
-    go (yes z) = rw z (f j k h (sym z))
-    go (no z) = let y : number K j k < i = below (number K j k) q z in rw (part_same (i * 8) cuts₂ cuts front (number K j k * 8) 8 (omega arith)) (g j k h y)
-      where
-        below : (v : ℕ) → v < i + 1 → (v ≡ i → ⊥) → v < i
-        below v q z = omega arith
+    go (yes z) = rw (z, e, row_new cuts cut i l h m) (f j k n (sym z))
+    go (no z) = rw (e, row_old cuts cut i l h m (number K j k) z) (g j k n (below (number K j k) q z))
 
 pub done_all : (K : Computation) (R : ℕ → ℕ → Option Cut) (cuts : List ℕ) (i : ℕ) → event_count K < i → Done K R cuts i → Slots K R cuts
 done_all K R cuts i l g j k h = let e : number K j k * 8 ≡ 8 * number K j k = omega arith in
     subst (λ (y : ℕ). Says K (R j k) (take 8 (drop y cuts))) e (g j k h (omega (arith, number-le K j k h)))
 
--- Marks of which only the first half was written.
-pub low-none : (marks : List ℕ) → ((i : ℕ) → 256 ≤ i → get_or marks i 0 ≡ get_or (replicate 512 0) i 0) → Low 0 marks
-low-none marks same i = omega (arith, same (256 + i) (omega arith) ∙ zeros 512 (256 + i))
-  where
-    zeros : (n j : ℕ) → ◌≡◌ {A = ℕ} (get_or (replicate n 0) j 0) 0
-    zeros zero j = refl
-    zeros (suc n) zero = refl
-    zeros (suc n) (suc j) = zeros n j
+-- Rounds that are all 0.
+pub zeros : (n i : ℕ) → ◌≡◌ {A = ℕ} (get_or (replicate n 0) i 0) 0
+zeros zero i = refl
+zeros (suc n) zero = refl
+zeros (suc n) (suc i) = zeros n i

@@ -19,7 +19,8 @@ use Rattle.lattice.proofs.Consistency.{same_cut}
 use Rattle.lattice.proofs.Shortcuts.{came}
 use Rattle.slots.specs.Slots.{Small, Coded, Says}
 use Rattle.numbering.proofs.Numbers.{first_some, coded_same, cells_same}
-use Rattle.chaining.specs.Table.{Chain, rounds_of, sought, Stands, Reaches, Comes}
+use Rattle.chaining.specs.declared.Chain.{Chain}
+use Rattle.chaining.specs.Table.{rounds_of, sought, Stands, Reaches, Comes}
 
 -- Two cuts, the larger one first, are the same where it is contained in the other.
 same_inside : (K : Computation) → Small K → (x y : Cut) (c d : List ℕ) (same : Bool) → Coded K x c → Coded K y d → length c ≡ 8 → length d ≡ 8 → y ⊑ x

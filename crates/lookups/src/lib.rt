@@ -3,178 +3,125 @@
 // counts and writes the rows.
 #![tactic(auto)]
 
-ghost use Rattle.std.specs.Prelude.{◌≡◌, true, false, cond, List, ℕ, ◌+◌, ◌*◌, ◌≤◌, ◌<◌, length, get_or};
+ghost use Rattle.std.specs.Prelude.{◌≡◌, ℕ, ◌+◌, ◌*◌, ◌≤◌, ◌<◌, length, get_or};
 ghost use Rattle.model.specs.Computation.{Computation, clock};
 ghost use Rattle.model.specs.Structure.{Structure};
 ghost use Rattle.model.specs.Basis.{start};
-ghost use Rattle.structure.specs.Shaped.{Shaped};
 ghost use Rattle.slots.specs.Pair.{Intersected};
 ghost use Rattle.picking.specs.Formed.{Formed};
 ghost use Rattle.picking.specs.Rows.{row_of};
 ghost use Rattle.chaining.specs.Table.{Low};
-ghost use Rattle.lookups.specs.Found.{Joined, Found, AtEvent, Looked};
+ghost use Rattle.lookups.specs.Found.{place_of, Joined, Found, AtEvent, Looked};
 
-use cells::{NONE, wide};
-use chaining::Station;
-use slots::Outcome;
+use cells::NONE;
+use chaining::Chain;
+use picking::Station;
+use slots::{Code, Table};
 
-// A start's outcome and its rounds; its cut stands as a row of `out`.
+// A start: the cut that it came to, or none, and its rounds. The cut stays in its table, since the compiler takes apart eight cells handed back.
 #[derive(Clone, Copy)]
-struct Step {
-    outcome: Outcome,
+struct Step<'a> {
+    cut: Option<&'a [u8; 8]>,
     rounds: u32,
 }
 
-// A byte as a number of rounds.
-fn counted(x: u8) -> u32
-    ensures { (result ≡ x) × (result < 256) }
-{
-    x as u32
+// The tables of a pair: the clocks of its starts, their first cuts of the other set, which entries these look up, the entries, what the starts come to, and what
+// that was a round before.
+#[derive(Clone, Copy)]
+struct Tables<'a> {
+    first: &'a Table,
+    cuts: &'a Table,
+    picks: &'a [u8; 256],
+    chain: &'a Chain,
+    out: &'a Table,
+    last: &'a Table,
+    // A table's type says its length, but of one behind a reference in a struct a proof does not know it.
+    ghost long: { (length cuts.now ≡ 2048) × (length out.now ≡ 2048) × (length first.now ≡ 2048) × (length last.now ≡ 2048) },
 }
 
-// Does a row with this first cell say none?
-fn says_none(x: u8) -> bool
-    ensures { (result ≡ true → x ≡ 255) × (result ≡ false → x < 255) }
+// The entry that row i of `cuts` looks up.
+fn place_of(picks: &[u8; 256], cuts: &Table, s: usize, i: usize) -> usize
+    requires { (i < 256) × (s < 8) }
+    ensures { (result ≡ place_of picks.now cuts.now s i) × (result < 256) }
 {
-    x == NONE
-}
-
-// One round more, unless it changed nothing.
-fn one_more(same: bool) -> u32
-    ensures { (result ≡ cond same 0 1) × (result ≤ 1) }
-{
-    if same { 0 } else { 1 }
+    usize::from(picks[usize::from(cuts[i * 8 + s])])
 }
 
 // Each of the first e + 1 rows of `cuts` joined with the row of `rows` that it looks up.
-fn join_all(
-    out: &mut [u8; 2048],
-    cuts: &[u8; 2048],
-    rows: &[u8; 2048],
-    marks: &[u8; 512],
-    e: usize,
-    s: usize,
-)
-    requires { (length out.old ≡ 2048) × (length cuts.now ≡ 2048) × (length rows.now ≡ 2048) × (length marks.now ≡ 512) × (e ≤ 254) × (s < 8) }
-    ensures { (length out.new ≡ 2048) × Joined e s marks.now cuts.now rows.now out.new }
+fn join_all(out: &mut Table, cuts: &Table, rows: &Table, picks: &[u8; 256], e: usize, s: usize)
+    requires { (e ≤ 254) × (s < 8) }
+    ensures { Joined e s picks.now cuts.now rows.now out.new }
 {
-    let mut i = 0;
-    while i <= e {
-        let p = wide(marks[wide(cuts[i * 8 + s])]);
-        picking::join_row(out, i, cuts, rows, p);
-        i += 1;
+    let mut row = [0u8; 8];
+    for i in 0..e + 1 {
+        picking::join_row(&mut row, cuts, i, rows, place_of(picks, cuts, s, i));
+        picking::put_row(out, i, &row);
     }
-}
-
-// Are row i of one table and row i of another the same?
-fn same_row(a: &[u8; 2048], b: &[u8; 2048], i: usize) -> bool
-    requires { (length a.now ≡ 2048) × (length b.now ≡ 2048) × (i < 256) }
-    ensures { (result ≡ true → row_of a.now i ≡ row_of b.now i) × (row_of a.now i ≡ row_of b.now i → result ≡ true) }
-{
-    let x = cells::cut_at(a, i * 8, 8);
-    let y = cells::cut_at(b, i * 8, 8);
-    slots::same(&x, &y)
 }
 
 // The rounds of a start that comes to none: one where it has no first cut of the other set, else those of the entry that this cut looks up.
-fn lost_rounds(cuts: &[u8; 2048], marks: &[u8; 512], i: usize, s: usize) -> u32
-    requires { (length cuts.now ≡ 2048) × (length marks.now ≡ 512) × (i < 256) × (s < 8) }
-    ensures value { (K : Computation) (S T : Structure) (j k : ℕ) (out last first : List ℕ) → AtEvent K S T s out last cuts.now first marks.now i j k → get_or out (i * 8) 0 ≡ 255
-        → result ≡ (start K S T (clock K j k)).rounds }
-    ensures few_rounds { (m : ℕ) → Low m marks.now → result ≤ m + 2 }
+fn lost_rounds(t: &Tables, i: usize, s: usize) -> u32
+    requires { (i < 256) × (s < 8) }
+    ensures value { (K : Computation) (S T : Structure) (j k : ℕ) → AtEvent K S T s t.now.out.now t.now.last.now t.now.cuts.now t.now.first.now t.now.picks.now t.now.chain.now i j k
+        → get_or t.now.out.now (i * 8) 0 ≡ 255 → result ≡ (start K S T (clock K j k)).rounds }
+    ensures few_rounds { (m : ℕ) → Low m t.now.chain.now → result ≤ m + 2 }
 {
-    if cuts[i * 8] == NONE {
+    if t.cuts[i * 8] == NONE {
         return 1;
     }
-    let p = wide(marks[wide(cuts[i * 8 + s])]);
-    1 + counted(marks[256 + p])
+    1 + u32::from(t.chain.rounds[place_of(t.picks, t.cuts, s, i)])
 }
 
-// The rounds of a start that comes to a cut: those of the entry that it looks up, and one more if it was at another cut a round before; one where
-// it looks nothing up, and one more if its clock is another cut.
-fn raised_rounds(
-    out: &[u8; 2048],
-    last: &[u8; 2048],
-    cuts: &[u8; 2048],
-    first: &[u8; 2048],
-    marks: &[u8; 512],
-    i: usize,
-    s: usize,
-) -> u32
-    requires { (length out.now ≡ 2048) × (length last.now ≡ 2048) × (length cuts.now ≡ 2048) × (length first.now ≡ 2048) × (length marks.now ≡ 512) × (i < 256) × (s < 8) }
-    ensures value { (K : Computation) (S T : Structure) (j k : ℕ) → AtEvent K S T s out.now last.now cuts.now first.now marks.now i j k
-        → get_or out.now (i * 8) 0 < 255 → result ≡ (start K S T (clock K j k)).rounds }
-    ensures few_rounds { (m : ℕ) → Low m marks.now → result ≤ m + 2 }
+// The rounds of a start that comes to a cut: those of the entry that it looks up, and one more if it was at another cut a round before; where it looks
+// nothing up, that is its clock.
+fn raised_rounds(t: &Tables, cut: &[u8; 8], i: usize, s: usize) -> u32
+    requires { (i < 256) × (s < 8) × (cut.now ≡ row_of t.now.out.now i) }
+    ensures value { (K : Computation) (S T : Structure) (j k : ℕ) → AtEvent K S T s t.now.out.now t.now.last.now t.now.cuts.now t.now.first.now t.now.picks.now t.now.chain.now i j k
+        → get_or cut.now 0 0 < 255 → result ≡ (start K S T (clock K j k)).rounds }
+    ensures few_rounds { (m : ℕ) → Low m t.now.chain.now → result ≤ m + 2 }
 {
-    let p = wide(marks[wide(cuts[i * 8 + s])]);
-    if p == 0 {
-        return 1 + one_more(same_row(out, first, i));
-    }
-    let more = one_more(same_row(out, last, i));
-    counted(marks[256 + p]) + 1 + more
+    let p = place_of(t.picks, t.cuts, s, i);
+    let before = picking::row_at(if p == 0 { t.first } else { t.last }, i);
+    let same = slots::same(cut, before);
+    u32::from(t.chain.rounds[p]) + 1 + u32::from(!same)
 }
 
-// The start from event i, whose outcome the first cell of its row in `out` tells: its clock is in `first`, its first cut of the other set in
-// `cuts`, what it comes to in `out`, and what that was a round before in `last`.
-fn look_up(
-    out: &[u8; 2048],
-    last: &[u8; 2048],
-    cuts: &[u8; 2048],
-    first: &[u8; 2048],
-    marks: &[u8; 512],
-    i: usize,
-    s: usize,
-) -> Step
-    requires { (length out.now ≡ 2048) × (length last.now ≡ 2048) × (length cuts.now ≡ 2048) × (length first.now ≡ 2048) × (length marks.now ≡ 512) × (i < 256) × (s < 8) }
-    ensures looked { (K : Computation) (S T : Structure) (j k : ℕ) → AtEvent K S T s out.now last.now cuts.now first.now marks.now i j k
-        → Looked K (start K S T (clock K j k)) (row_of out.now i) result }
-    ensures few_rounds { (m : ℕ) → Low m marks.now → result.rounds ≤ m + 2 }
+// The start from event i, which the first cell of its row in `out` tells to be raised or not.
+fn look_up<'a>(t: &Tables<'a>, i: usize, s: usize) -> Step<'a>
+    requires { (i < 256) × (s < 8) }
+    ensures looked { (K : Computation) (S T : Structure) (j k : ℕ) → AtEvent K S T s t.now.out.now t.now.last.now t.now.cuts.now t.now.first.now t.now.picks.now t.now.chain.now i j k
+        → Looked K (start K S T (clock K j k)) result }
+    ensures few_rounds { (m : ℕ) → Low m t.now.chain.now → result.rounds ≤ m + 2 }
 {
-    if says_none(out[i * 8]) {
+    let cut = picking::row_at(t.out, i);
+    if cut[0] == NONE {
         return Step {
-            outcome: Outcome::Lost,
-            rounds: lost_rounds(cuts, marks, i, s),
+            cut: None,
+            rounds: lost_rounds(t, i, s),
         };
     }
     Step {
-        outcome: Outcome::Raised,
-        rounds: raised_rounds(out, last, cuts, first, marks, i, s),
+        cut: Some(cut),
+        rounds: raised_rounds(t, cut, i, s),
     }
 }
 
 // The rows of all starts go to the front of ws, and their rounds are counted.
-fn put_all(
-    ws: &mut [u8],
-    out: &[u8; 2048],
-    last: &[u8; 2048],
-    cuts: &[u8; 2048],
-    first: &[u8; 2048],
-    marks: &[u8; 512],
-    q: Station,
-) -> u32
-    requires shaped { Shaped q.x }
-    requires s_lt_n { (q.s < q.x.n) × (length out.now ≡ 2048) × (length last.now ≡ 2048) × (length cuts.now ≡ 2048) × (length first.now ≡ 2048) × (length marks.now ≡ 512) }
-    requires n_in_bounds { ((q.x.e + 1) * q.x.n ≤ length ws.old) × Low (q.x.e + 1) marks.now }
-    ensures intersected { (K : Computation) (S T : Structure) (above under : List ℕ) → Formed K q.x → Found K S T q.s cuts.now first.now above under marks.now
-        → Joined q.x.e q.s marks.now cuts.now above out.now → Joined q.x.e q.s marks.now cuts.now under last.now
+fn put_all(ws: &mut [u8], t: &Tables, q: Station) -> u32
+    requires fits { (q.x.e + 1) * q.x.n ≤ length ws.old }
+    requires few_rounds { Low (q.x.e + 1) t.now.chain.now }
+    ensures intersected { (K : Computation) (S T : Structure) → Formed K q.x → Found K S T q.s t.now.cuts.now t.now.first.now t.now.picks.now t.now.chain.now
+        → Joined q.x.e q.s t.now.picks.now t.now.cuts.now t.now.chain.now.above t.now.out.now → Joined q.x.e q.s t.now.picks.now t.now.cuts.now t.now.chain.now.under t.now.last.now
         → Intersected K S T q.x.n ws.new result }
     ensures upper_bound { result ≤ (q.x.e + 1) * (q.x.e + 5) }
 {
-    let x = q.x;
-    let s = q.s;
-    let n = x.n;
-    let e = x.e;
-    let offs = x.offs;
-    let code = slots::coding(n, &offs);
+    let n = q.x.n;
+    let code = slots::coding(n, &q.x.offs);
     let mut rounds: u32 = 0;
-    let mut i = 0;
-    while i <= e {
-        let step = look_up(out, last, cuts, first, marks, i, s);
-        let outcome = step.outcome;
-        let cut = cells::cut_at(out, i * 8, 8);
-        slots::put_start(ws, i * n, n, outcome, &cut, &code);
+    for i in 0..q.x.e + 1 {
+        let step = look_up(t, i, q.s);
+        slots::put_start(ws, i * n, n, step.cut, &code);
         rounds += step.rounds;
-        i += 1;
     }
     rounds
 }
@@ -182,26 +129,28 @@ fn put_all(
 // All starts: their rows go to the front of ws.
 pub fn all_starts(
     ws: &mut [u8],
-    cuts: &[u8; 2048],
-    first: &[u8; 2048],
-    above: &[u8; 2048],
-    under: &[u8; 2048],
-    marks: &[u8; 512],
+    cuts: &Table,
+    first: &Table,
+    picks: &[u8; 256],
+    chain: &Chain,
     q: Station,
 ) -> u32
-    requires shaped { Shaped q.x }
-    requires s_lt_n { (q.s < q.x.n) × (length cuts.now ≡ 2048) × (length first.now ≡ 2048) × (length above.now ≡ 2048) × (length under.now ≡ 2048) × (length marks.now ≡ 512) }
-    requires n_in_bounds { ((q.x.e + 1) * q.x.n ≤ length ws.old) × Low (q.x.e + 1) marks.now }
-    ensures intersected { (K : Computation) (S T : Structure) → Formed K q.x → Found K S T q.s cuts.now first.now above.now under.now marks.now
-        → Intersected K S T q.x.n ws.new result }
+    requires fits { (q.x.e + 1) * q.x.n ≤ length ws.old }
+    requires few_rounds { Low (q.x.e + 1) chain.now }
+    ensures intersected { (K : Computation) (S T : Structure) → Formed K q.x → Found K S T q.s cuts.now first.now picks.now chain.now → Intersected K S T q.x.n ws.new result }
     ensures upper_bound { result ≤ (q.x.e + 1) * (q.x.e + 5) }
 {
-    let x = q.x;
-    let s = q.s;
-    let e = x.e;
     let mut out = [0u8; 2048];
     let mut last = [0u8; 2048];
-    join_all(&mut out, cuts, above, marks, e, s);
-    join_all(&mut last, cuts, under, marks, e, s);
-    put_all(ws, &out, &last, cuts, first, marks, q)
+    join_all(&mut out, cuts, &chain.above, picks, q.x.e, q.s);
+    join_all(&mut last, cuts, &chain.under, picks, q.x.e, q.s);
+    let tables = Tables {
+        first,
+        cuts,
+        picks,
+        chain,
+        out: &out,
+        last: &last,
+    };
+    put_all(ws, &tables, q)
 }

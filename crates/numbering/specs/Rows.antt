@@ -1,11 +1,12 @@
 -- Cuts and rows of a structure in eight cells each, the counts as numbers of events.
-use Rattle.std.specs.Prelude.{◌≡◌, ℕ, zero, suc, ◌+◌, ◌*◌, ◌≤◌, ◌<◌, min, List, length, get_or, take, drop}
+use Rattle.std.specs.Prelude.{◌≡◌, ℕ, zero, suc, ◌+◌, ◌*◌, ◌≤◌, ◌<◌, min, List, get_or, take, drop}
 use Rattle.std.proofs.Math.Option.{Option, none, some}
 use Rattle.model.specs.Lists.{total}
 use Rattle.model.specs.Cut.{Cut, ◌!◌}
 use Rattle.model.specs.Computation.{Computation, Consistent, stations, count, full, event_count}
 use Rattle.structure.specs.Layout.{decoded}
 use Rattle.lattice.proofs.Valid.{Valid}
+use Rattle.numbering.specs.declared.Code.{Code}
 
 -- The number of event k of station j: events are numbered from 1 on, station by station. At 0 nothing has happened.
 unfoldable pub number : Computation → ℕ → ℕ → ℕ
@@ -42,26 +43,29 @@ pub record Rows (K : Computation) (R : ℕ → ℕ → Option Cut) (n at : ℕ) 
   pub says : (j k : ℕ) → k ≤ count K j → decoded (take n (drop (at + number K j k * n) ws)) ≡ R j k
   pub consistent : (j k : ℕ) → k ≤ count K j → (d : Cut) → R j k ≡ some d → Consistent K d
 
--- How n counts become numbers: the events before each station in the last eight cells, and what is left up to 255 in the first.
-pub record Coding (n : ℕ) (code : List ℕ) : Type 0 where
-  pub size : length code ≡ 16
-  pub sums : (i : ℕ) → i < n → get_or code i 0 + get_or code (8 + i) 0 ≡ 255
-  pub past : (i : ℕ) → n ≤ i → i < 8 → (get_or code i 0 ≡ 0) × (get_or code (8 + i) 0 ≡ 0)
+-- How n counts become numbers: the events before each station, and what is left up to 255.
+pub record Coding (n : ℕ) (code : Code) : Type 0 where
+  pub sums : (i : ℕ) → i < n → get_or code.room i 0 + get_or code.before i 0 ≡ 255
+  pub past : (i : ℕ) → n ≤ i → i < 8 → (get_or code.room i 0 ≡ 0) × (get_or code.before i 0 ≡ 0)
 
 -- They are those of a computation.
-abbrev pub Offsets : Computation → List ℕ → Type 0
-Offsets K code = (j : ℕ) → j < stations K → get_or code (8 + j) 0 ≡ total (take j (full K))
+abbrev pub Offsets : Computation → Code → Type 0
+Offsets K code = (j : ℕ) → j < stations K → get_or code.before j 0 ≡ total (take j (full K))
+
+-- No number passes 255.
+abbrev pub Fits : Code → Type 0
+Fits code = (i : ℕ) → i < 8 → get_or code.room i 0 + get_or code.before i 0 ≤ 255
 
 -- A count that is not above `most`, with `before` more unless it is 0.
 abbrev pub numbered : ℕ → ℕ → ℕ → ℕ
 numbered most before v = min v most + min before (255 * min (min v most) 1)
 
--- The eight cells at a place of ws were put at `to`, numbered, and the cells before are as they were.
-pub record Put (code : List ℕ) (to : ℕ) (ws : List ℕ) (at : ℕ) (t t₂ : List ℕ) : Type 0 where
+-- The eight cells of a row were put at `to`, numbered, and the cells before are as they were.
+pub record Put (code : Code) (to : ℕ) (row t t₂ : List ℕ) : Type 0 where
   pub front : take to t₂ ≡ take to t
-  pub cells : (i : ℕ) → i < 8 → get_or t₂ (to + i) 0 ≡ numbered (get_or code i 0) (get_or code (8 + i) 0) (get_or ws (at + i) 0)
+  pub cells : (i : ℕ) → i < 8 → get_or t₂ (to + i) 0 ≡ numbered (get_or code.room i 0) (get_or code.before i 0) (get_or row i 0)
 
 -- The first k rows of n cells from a place on stand in a table, numbered.
-abbrev pub Copied : List ℕ → ℕ → List ℕ → ℕ → ℕ → List ℕ → Type 0
+abbrev pub Copied : Code → ℕ → List ℕ → ℕ → ℕ → List ℕ → Type 0
 Copied code n ws at k table =
-    (i c : ℕ) → i < k → c < 8 → get_or table (i * 8 + c) 0 ≡ numbered (get_or code c 0) (get_or code (8 + c) 0) (get_or ws (at + i * n + c) 0)
+    (i c : ℕ) → i < k → c < 8 → get_or table (i * 8 + c) 0 ≡ numbered (get_or code.room c 0) (get_or code.before c 0) (get_or ws (at + i * n + c) 0)

@@ -1,10 +1,11 @@
 -- One pair: the set is the intersection, the bars are those of both; it is kept if the set is not empty and its greatest cut is contained in no bar.
-use mathlib.Core.Path.{◌≡◌, sym, ap, subst, ◌∙◌}
+use mathlib.Core.Path.{◌≡◌, refl, sym, ap, subst, ◌∙◌}
+use mir.Val.{bool_byte}
 use Prim.Native.Nat.{ℕ, ◌+◌, ◌*◌, ◌≤◌, ◌<◌}
 use native.Mathlib.Omega.{arith}
 use native.Mathlib.Nat.{not-suc-le-zero}
 use mathlib.Core.List.{List, [], ◌∷◌}
-use mathlib.Core.Bool.{Bool, true, false, cond}
+use mathlib.Core.Bool.{Bool, true, false, cond, not}
 use mathlib.Core.Option.{some}
 use lib.ListN.{get_or, take, drop}
 use lib.Seq.{get_or-take, get_or-drop}
@@ -23,7 +24,7 @@ use Rattle.pair.specs.declared.Pair.{Pair}
 use Rattle.pair.specs.Post.{structure_of, standing_from, Put, OnePair, IntersectedAt}
 
 -- The set stands in w₁, the bars in b₁.
-module _ (x : Shape) (p : Pair) (left first w w₁ b b₁ : List ℕ) (rounds : ℕ) (z : 0 < x.n) (inter : IntersectedAt x p left first w w₁ rounds)
+module _ {x : Shape} {p : Pair} {left first w w₁ b b₁ : List ℕ} {rounds : ℕ} (inter : IntersectedAt x p left first w w₁ rounds)
     (bars : BarsJoined x.n (p.left * (16 * x.n)) (p.right * (16 * x.n)) (p.to * (16 * x.n)) b b₁) where
   abbrev place : ℕ
   place = p.to * ((x.e + 1) * x.n)
@@ -44,7 +45,7 @@ module _ (x : Shape) (p : Pair) (left first w w₁ b b₁ : List ℕ) (rounds : 
   PutOne k = Put x.n x.e p.to k Known w w₁ b b₁ (λ K. intersect K (S K) (T K)) (λ K. rounds_of_pair K (S K) (T K)) rounds
 
   first-is : get_or (take x.n (drop place w₁)) 0 0 ≡ get_or w₁ place 0
-  first-is = get_or-take x.n (drop place w₁) 0 0 z ∙ get_or-drop place w₁ 0 0 ∙ ap (λ (y : ℕ). get_or w₁ y 0) (let q : place + 0 ≡ place = omega arith in q)
+  first-is = get_or-take x.n (drop place w₁) 0 0 x.some_station ∙ get_or-drop place w₁ 0 0 ∙ ap (λ (y : ℕ). get_or w₁ y 0) (let q : place + 0 ≡ place = omega arith in q)
 
   module _ (K : Computation) (h : Known K) where
     least-is : (start K (S K) (T K) (empty (stations K))).reached ≡ decoded (take x.n (drop place w₁))
@@ -92,10 +93,13 @@ module _ (x : Shape) (p : Pair) (left first w w₁ b b₁ : List ℕ) (rounds : 
         let said = subst (λ (l : List ℕ). RowsAscend l (structure_at x.n l (drop place w₁) d) → t ≡ inside_any (greatest (structure_at x.n l (drop place w₁) d)) (bars_at x.n 16 d)) h.begun.counts_are (test d) in
         one-some K h f ∙ ap (λ (y : Bool). cond y [] (new K ∷ [])) (sym (said (ascends K h f)))
 
-    pub one_dropped : t ≡ true → PutOne 0
+    pub one-tested : (k : ℕ) → k ≡ bool_byte (not t) → PutOne k
     unfolding standing
-    one_dropped y = put_one 0 (λ K h. sym (keep-is K h ∙ ap (λ (c : Bool). cond c [] (new K ∷ [])) y)) (λ h. absurd (not-suc-le-zero h)) (omega arith)
+    one-tested k e = go t refl
+      where
+        is : (u : Bool) → t ≡ u → (K : Computation) → Known K → cond u [] (new K ∷ []) ≡ intersect K (S K) (T K)
+        is u g K h = sym (keep-is K h ∙ ap (λ (c : Bool). cond c [] (new K ∷ [])) g)
 
-    pub one_kept : t ≡ false → PutOne 1
-    unfolding standing
-    one_kept y = put_one 1 (λ K h. sym (keep-is K h ∙ ap (λ (c : Bool). cond c [] (new K ∷ [])) y)) (λ h. f) (omega arith)
+        go : (u : Bool) → t ≡ u → PutOne k
+        go true g = rw (e, g) (put_one 0 (is true g) (λ h. absurd (not-suc-le-zero h)) (omega arith))
+        go false g = rw (e, g) (put_one 1 (is false g) (λ h. f) (omega arith))

@@ -18,7 +18,7 @@ use Rattle.structure.specs.Layout.{decoded, structure_at}
 use Rattle.structure.proofs.Rows.{decoded-some}
 use Rattle.structure.proofs.Places.{row-place}
 use Rattle.structure.proofs.Starts.{row-clock, offs_is}
-use Rattle.slots.specs.Slots.{number, Small, Says, Slots, Rows, Offsets}
+use Rattle.slots.specs.Slots.{Code, number, Small, Says, Slots, Rows, Offsets}
 use Rattle.structure.specs.Laid.{Laid}
 use Rattle.pair.specs.Post.{structure_of, Begun}
 
@@ -47,8 +47,8 @@ pub structure_rows : (K : Computation) (m : Small K) (n e : ℕ) → stations K 
 structure_rows K m n e p w b i g = rows_in K m n p w (drop (i * (16 * n)) b) (i * ((e + 1) * n)) (λ j k h d f. (g.rows_in j k d f).0)
 
 -- The code's offsets are those of the computation.
-pub offsets_are : (x : Shape) (K : Computation) (code : List ℕ) → stations K ≡ x.n → ((j : ℕ) → j < x.n → get_or x.offs j 0 ≡ total (take j (full K)))
-    → ((i : ℕ) → i < x.n → get_or code (8 + i) 0 ≡ get_or x.offs i 0) → Offsets K code
+pub offsets_are : (x : Shape) (K : Computation) (code : Code) → stations K ≡ x.n → ((j : ℕ) → j < x.n → get_or x.offs j 0 ≡ total (take j (full K)))
+    → ((i : ℕ) → i < x.n → get_or code.before i 0 ≡ get_or x.offs i 0) → Offsets K code
 offsets_are x K code p o c j h = c j (omega (arith, p)) ∙ o j (omega (arith, p))
 
 -- STARTS
@@ -57,9 +57,9 @@ module _ (K : Computation) (x : Shape) (starts : List ℕ) (laid : Laid K x star
   laid-small : Small K
   laid-small = record {
     valid = laid.valid;
-    some_station = omega (arith, laid.stationed, laid.shaped.some_station);
-    few_stations = omega (arith, laid.stationed, laid.shaped.few_stations);
-    few_events = omega (arith, laid.counted, laid.shaped.few_events);
+    some_station = omega (arith, laid.stationed, x.some_station);
+    few_stations = omega (arith, laid.stationed, x.few_stations);
+    few_events = omega (arith, laid.counted, x.few_events);
   }
 
   -- The starts as a structure: a row for each clock.
@@ -83,7 +83,7 @@ module _ (K : Computation) (x : Shape) (starts : List ℕ) (laid : Laid K x star
   }
 
   -- The starts as the code puts them into a table.
-  pub laid_table : (code first : List ℕ) → ((i : ℕ) → i < x.n → get_or code (8 + i) 0 ≡ get_or x.offs i 0)
+  pub laid_table : (code : Code) (first : List ℕ) → ((i : ℕ) → i < x.n → get_or code.before i 0 ≡ get_or x.offs i 0)
       → ((R : ℕ → ℕ → Option Cut) → Small K → stations K ≡ x.n → event_count K ≡ x.e → Offsets K code → Rows K R x.n 0 starts → Slots K R first) → Begun x first K
   laid_table code first c t = laid-begun first (t (row S₀) laid-small laid.stationed laid.counted (offsets_are x K code laid.stationed (offs_is K x starts laid) c) start-rows)
 

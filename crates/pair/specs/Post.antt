@@ -1,5 +1,5 @@
 -- What one pair asks and leaves.
-use Rattle.std.specs.Prelude.{ℕ, ◌+◌, ◌*◌, ◌≤◌, ◌<◌, ◌≡◌, List, length, get_or, take, drop}
+use Rattle.std.specs.Prelude.{ℕ, ◌+◌, ◌*◌, ◌≤◌, ◌<◌, ◌≡◌, Some, List, length, get_or, take, drop}
 use Rattle.model.specs.Lists.{total}
 use Rattle.model.specs.Computation.{Computation, stations, full, event_count}
 use Rattle.model.specs.Structure.{Structure, row}
@@ -51,8 +51,8 @@ pub record Placed (x : Shape) (p : Pair) (w : List ℕ) : Type 0 where
   pub right : p.right < p.to
   pub cells_fit : (p.to + 1) * ((x.e + 1) * x.n) ≤ length w
   pub small : p.to ≤ 300
-  pub within_left : p.leftmark ≤ x.n
-  pub within_right : p.rightmark ≤ x.n
+  pub within_left : (s : ℕ) → p.leftmark ≡ Some s → s < x.n
+  pub within_right : (s : ℕ) → p.rightmark ≡ Some s → s < x.n
 
 -- The same with room for the bars of both.
 pub record OneReady (x : Shape) (p : Pair) (w b : List ℕ) : Type 0 where

@@ -1,4 +1,5 @@
 -- Pairs put one behind the other: a row of pairs, all pairs.
+use Rattle.std.specs.Prelude.{Option, None}
 use mathlib.Core.Path.{◌≡◌, refl, sym, ap, ap₂, subst, ◌∙◌}
 use Prim.Native.Nat.{ℕ, suc, ◌+◌, ◌-◌, ◌*◌, ◌≤◌, ◌<◌}
 use native.Mathlib.Omega.{arith}
@@ -226,12 +227,12 @@ module _ (x : Shape) (z : 0 < x.n) (first w w₁ b b₁ : List ℕ) (o : ℕ) (e
     good-at : j < r → All (Good K) (standing_from x.n x.e K w b l r) → Good K (structure_of x.n x.e K w b (l + j))
     good-at h a = subst (Good K) from_at (standing-each x.n (full K) (Good K) r (drop (l * ((x.e + 1) * x.n)) w) (drop (l * (16 * x.n)) b) a j h)
 
-    mark_at : (marks : List ℕ) → j < r → Marked K (standing_from x.n x.e K w b l r) marks → Mark K (get_or marks j 0) (structure_of x.n x.e K w b (l + j))
-    mark_at marks h a = subst (Mark K (get_or marks j 0)) from_at (standing_mark K x.n (full K) r (drop (l * ((x.e + 1) * x.n)) w) (drop (l * (16 * x.n)) b) marks a j h)
+    mark_at : (marks : List (Option ℕ)) → j < r → Marked K (standing_from x.n x.e K w b l r) marks → Mark K (get_or marks j None) (structure_of x.n x.e K w b (l + j))
+    mark_at marks h a = subst (Mark K (get_or marks j None)) from_at (standing_mark K x.n (full K) r (drop (l * ((x.e + 1) * x.n)) w) (drop (l * (16 * x.n)) b) marks a j h)
 
   pub row_knows : (q : Row) (left : List ℕ) (j c : ℕ) → j < q.many → q.left < o → q.right + q.many ≤ o
       → ((K : Computation) → RowPair x q first w b K → Slots K (row (structure_of x.n x.e K w b q.left)) left)
-      → (K : Computation) → RowPair x q first w b K → OnePair x (record { left = q.left; right = q.right + j; to = c; leftmark = q.leftmark; rightmark = get_or q.marks j 0 }) left first w₁ b₁ K
+      → (K : Computation) → RowPair x q first w b K → OnePair x (record { left = q.left; right = q.right + j; to = c; leftmark = q.leftmark; rightmark = get_or q.marks j None }) left first w₁ b₁ K
   row_knows q left j c h hi hr s K g =
       let kept = structure_kept x.n x.e z K g.begun.counted o w₁ w b₁ b ew eb in
       record {
@@ -240,11 +241,11 @@ module _ (x : Shape) (z : 0 < x.n) (first w w₁ b b₁ : List ℕ) (o : ℕ) (e
         slots_left = subst (λ (S : Structure). Slots K (row S) left) (sym (kept q.left hi)) (s K g);
         good_right = subst (Good K) (sym (kept (q.right + j) (omega arith))) (good-at K g.begun.counted q.right q.many j h g.good_right);
         mark_left = subst (Mark K q.leftmark) (sym (kept q.left hi)) g.mark_left;
-        mark_right = subst (Mark K (get_or q.marks j 0)) (sym (kept (q.right + j) (omega arith))) (mark_at K g.begun.counted q.right q.many j q.marks h g.marked_right);
+        mark_right = subst (Mark K (get_or q.marks j None)) (sym (kept (q.right + j) (omega arith))) (mark_at K g.begun.counted q.right q.many j q.marks h g.marked_right);
       }
 
   pub all_knows : (l r : Sets) (i c : ℕ) → i < l.count → l.count + r.count ≤ o → (K : Computation) → AllPairs x l r first w b K
-      → RowPair x (record { left = i; right = l.count; many = r.count; to = c; leftmark = get_or l.stations i 0; marks = r.stations }) first w₁ b₁ K
+      → RowPair x (record { left = i; right = l.count; many = r.count; to = c; leftmark = get_or l.stations i None; marks = r.stations }) first w₁ b₁ K
   all_knows l r i c h hr K g =
       let cells_are = cells_is x.n x.e z K g.begun.counted in
       let kept = structure_kept x.n x.e z K g.begun.counted o w₁ w b₁ b ew eb i (omega arith) in
@@ -255,6 +256,6 @@ module _ (x : Shape) (z : 0 < x.n) (first w w₁ b b₁ : List ℕ) (o : ℕ) (e
         begun = g.begun;
         good_left = subst (Good K) (sym kept) (subst (λ (m : ℕ). Good K (structure_at x.n (full K) (drop (i * m) w) (drop (i * (16 * x.n)) b))) cells_are good);
         good_right = subst (All (Good K)) (sym from) g.bases.good_right;
-        mark_left = subst (Mark K (get_or l.stations i 0)) (sym kept) (subst (λ (m : ℕ). Mark K (get_or l.stations i 0) (structure_at x.n (full K) (drop (i * m) w) (drop (i * (16 * x.n)) b))) cells_are mark);
+        mark_left = subst (Mark K (get_or l.stations i None)) (sym kept) (subst (λ (m : ℕ). Mark K (get_or l.stations i None) (structure_at x.n (full K) (drop (i * m) w) (drop (i * (16 * x.n)) b))) cells_are mark);
         marked_right = subst (λ (L : List Structure). Marked K L r.stations) (sym from) g.bases.marked_right;
       }

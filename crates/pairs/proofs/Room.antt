@@ -1,5 +1,6 @@
 -- The room that each step of the pairs has.
-use mathlib.Core.Path.{◌≡◌, ap, subst}
+use Rattle.std.specs.Prelude.{None}
+use mathlib.Core.Path.{◌≡◌, ap}
 use Prim.Native.Nat.{ℕ, ◌+◌, ◌*◌, ◌≤◌, ◌<◌}
 use native.Mathlib.Omega.{arith}
 use native.Mathlib.Nat.{suc-mul, add-mul, mul-le-mul, mul-le-mul_right}
@@ -16,7 +17,6 @@ use Rattle.structure.proofs.Standing.{bars_same}
 use Rattle.pair.specs.Post.{Put, OneReady}
 use Rattle.pairs.specs.declared.Row.{Row}
 use Rattle.pairs.specs.Post.{RowReady, PairsReady}
-use Rattle.pairs.proofs.Putting.{row_x, row_y, all_x, all_y}
 
 -- What stands before structure o, where that has been kept.
 module _ (n e o : ℕ) (z : 0 < n) (w v b d : List ℕ) (ew : take (o * ((e + 1) * n)) w ≡ take (o * ((e + 1) * n)) v) (eb : take (o * (16 * n)) b ≡ take (o * (16 * n)) d) where
@@ -26,7 +26,7 @@ module _ (n e o : ℕ) (z : 0 < n) (w v b d : List ℕ) (ew : take (o * ((e + 1)
 
 pub one_ready : (x : Shape) (q : Row) (c j : ℕ) (P : Computation → Type 0) (w₀ w b₀ b : List ℕ) (X : Computation → List Structure) (Y : Computation → ℕ) (s : ℕ) → 0 < x.n
     → RowReady x q w₀ b₀ → Put x.n x.e q.to c P w₀ w b₀ b X Y s → length w ≡ length w₀ → length b ≡ length b₀ → j < q.many → c ≤ j
-    → OneReady x (record { left = q.left; right = q.right + j; to = q.to + c; leftmark = q.leftmark; rightmark = get_or q.marks j 0 }) w b
+    → OneReady x (record { left = q.left; right = q.right + j; to = q.to + c; leftmark = q.leftmark; rightmark = get_or q.marks j None }) w b
 one_ready x q c j P w₀ w b₀ b X Y s z R p lw lb h k =
     let t : q.to + c + 1 ≤ q.to + q.many = omega arith in
     let y : q.right + j < q.to = omega (arith, R.right) in
@@ -50,22 +50,9 @@ row_room x q w b R =
     let t : q.left + 1 ≤ q.to + q.many = omega (arith, R.left) in
     omega (arith, mul-le-mul_right ((x.e + 1) * x.n) t, one_more q.left ((x.e + 1) * x.n), R.cells_fit)
 
-pub row_done : (n e i l r o c j : ℕ) (P : Computation → Type 0) (w₀ w b₀ b : List ℕ) (s : ℕ) → j ≡ r
-    → Put n e o c P w₀ w b₀ b (row_x n e w₀ b₀ i l j) (row_y n e w₀ b₀ i l j) s → Put n e o c P w₀ w b₀ b (row_x n e w₀ b₀ i l r) (row_y n e w₀ b₀ i l r) s
-row_done n e i l r o c j P w₀ w b₀ b s q p = rw (← q) p
-
-pub all_done : (n e i l r c : ℕ) (P : Computation → Type 0) (w₀ w b₀ b : List ℕ) (s : ℕ) → i ≡ l → c ≤ i * r → s ≤ i * r * ((e + 1) * (e + 5))
-    → Put n e (l + r) c P w₀ w b₀ b (all_x n e w₀ b₀ l r i) (all_y n e w₀ b₀ l r i) s
-    → (c ≤ l * r) × (s ≤ l * r * ((e + 1) * (e + 5))) × Put n e (l + r) c P w₀ w b₀ b (all_x n e w₀ b₀ l r l) (all_y n e w₀ b₀ l r l) s
-all_done n e i l r c P w₀ w b₀ b s q h k p = (
-  subst (λ (x : ℕ). c ≤ x * r) q h,
-  subst (λ (x : ℕ). s ≤ x * r * ((e + 1) * (e + 5))) q k,
-  subst (λ (x : ℕ). Put n e (l + r) c P w₀ w b₀ b (all_x n e w₀ b₀ l r x) (all_y n e w₀ b₀ l r x) s) q p,
-)
-
 pub row_ready : (x : Shape) (l r : Sets) (i c : ℕ) (P : Computation → Type 0) (w₀ w b₀ b : List ℕ) (X : Computation → List Structure) (Y : Computation → ℕ) (s : ℕ) → 0 < x.n
     → PairsReady x l r w₀ b₀ → Put x.n x.e (l.count + r.count) c P w₀ w b₀ b X Y s → length w ≡ length w₀ → length b ≡ length b₀ → i < l.count → c ≤ i * r.count
-    → RowReady x (record { left = i; right = l.count; many = r.count; to = l.count + r.count + c; leftmark = get_or l.stations i 0; marks = r.stations }) w b
+    → RowReady x (record { left = i; right = l.count; many = r.count; to = l.count + r.count + c; leftmark = get_or l.stations i None; marks = r.stations }) w b
 row_ready x l r i c P w₀ w b₀ b X Y s z R p lw lb h k =
     let u : c + r.count ≤ l.count * r.count = omega (arith, mul-le-mul_right r.count h, suc-mul i r.count) in
     let t : l.count + r.count + c + r.count ≤ l.count + r.count + l.count * r.count = omega arith in
@@ -88,9 +75,6 @@ pair_small e h = mul-le-mul {n₁ = e + 1} {m₁ = e + 5} {n₂ = 255} {m₂ = 2
 
 pub rows_fit : (j r m : ℕ) → j < r → r ≤ 16 → m ≤ 66045 → (j + 1) * m ≤ 1056720
 rows_fit j r m h k l = mul-le-mul {n₁ = j + 1} {m₁ = m} {n₂ = 16} {m₂ = 66045} (omega arith) l
-
-pub rounds_done : (m s j r : ℕ) → j ≡ r → s ≤ j * m → s ≤ r * m
-rounds_done m s j r e h = rw (← e) h
 
 pub row-rounds : (m s j v : ℕ) → s ≤ j * m → v ≤ m → s + v ≤ (j + 1) * m
 row-rounds m s j v h k = omega (arith, one_more j m)

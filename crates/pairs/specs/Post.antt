@@ -1,5 +1,5 @@
 -- What the step for "and" asks and leaves.
-use Rattle.std.specs.Prelude.{ℕ, ◌+◌, ◌*◌, ◌≤◌, ◌<◌, ◌≡◌, List, length, drop}
+use Rattle.std.specs.Prelude.{ℕ, ◌+◌, ◌*◌, ◌≤◌, ◌<◌, ◌≡◌, Some, List, length, drop}
 use Rattle.model.specs.Computation.{Computation, full}
 use Rattle.model.specs.Basis.{pairs}
 use Rattle.model.specs.Rounds.{rounds_of_pairs}
@@ -43,7 +43,7 @@ pub record RowReady (x : Shape) (q : Row) (w b : List ℕ) : Type 0 where
   pub bars_fit : (q.to + q.many) * (16 * x.n) ≤ length b
   pub small : q.to + q.many ≤ 300
   pub bars : (j : ℕ) → j < q.many → length (bars_at x.n 16 (drop (q.left * (16 * x.n)) b)) + length (bars_at x.n 16 (drop ((q.right + j) * (16 * x.n)) b)) ≤ 16
-  pub within_left : q.leftmark ≤ x.n
+  pub within_left : (s : ℕ) → q.leftmark ≡ Some s → s < x.n
   pub within_right : Within x.n q.marks
 
 -- Room for the pairs of l structures and of r structures behind them, and no pair with more than 16 bars; marks of the stations that there are.

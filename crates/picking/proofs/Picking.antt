@@ -5,7 +5,9 @@ use native.Mathlib.Omega.{arith}
 use native.Mathlib.Decide.{ℕ_discrete}
 use mathlib.Core.Bool.{cond}
 use mathlib.Core.List.{List}
-use mathlib.Core.Option.{Option, none, some}
+use mathlib.Core.Option as math
+use mathlib.Core.Option.{none, some}
+use Rattle.std.specs.Prelude.{Option, None, Some}
 use lib.Dec.{eqb}
 use lib.ListN.{length, get_or, take, drop, set}
 use lib.Seq.{get_or-set_same, get_or-set_other, get_or-take, get_or-drop}
@@ -19,7 +21,7 @@ use Rattle.structure.specs.Layout.{decoded}
 use Rattle.structure.proofs.Rows.{decoded-some, decoded-is, is_none, first-at}
 use Rattle.slots.specs.Slots.{number, Small, Says, Slots, Rows}
 use Rattle.numbering.proofs.Numbers.{number_same, first_some}
-use Rattle.picking.specs.Formed.{pick_of}
+use Rattle.picking.specs.Formed.{pick_of, Numbers, entry_of}
 use Rattle.picking.specs.Rows.{row_of}
 use Rattle.picking.proofs.Reading.{row_cell, row_first, slot_row}
 
@@ -42,22 +44,27 @@ module _ (K : Computation) (s : ℕ) where
       go (yes z) = rw (eq-eqb (number K s i) (number K s k) (ap (number K s) z), eq-eqb i k z) refl
       go (no z) = rw (ne_eqb (number K s i) (number K s k) (λ y. z (number_same K s i k y)), ne_eqb i k z) refl
 
-  -- A row in numbers.
-  from_numbers : Small K → (o : Option Cut) (c : List ℕ) (k v r : ℕ) → Says K o c → v ≡ number K s k
-      → r ≡ cond (eqb (get_or c 0 0) 255) 255 (cond (eqb (get_or c s 0) v) 0 (get_or c s 0)) → r ≡ pick_of K s k (count_in s o)
+  -- The event found by a row in numbers.
+  from_numbers : Small K → (o : math.Option Cut) (c : List ℕ) (found : Option ℕ) → Says K o c → (get_or c 0 0 ≡ 255 → found ≡ None)
+      → ((get_or c 0 0 ≡ 255 → ⊥) → found ≡ Some (get_or c s 0)) → Numbers K s (count_in s o) found
   unfolding count_in
-  from_numbers m none c k v r h e q = q ∙ rw (eq-eqb (get_or c 0 0) 255 h) refl
-  from_numbers m (some d) c k v r h e q = q ∙ rw (ne_eqb (get_or c 0 0) 255 (λ z. omega (arith, z, first_some K m d c h)), h.cells s, e) (pick_number (d ! s) k)
+  from_numbers m none c found h e f = e h
+  from_numbers m (some d) c found h e f = f (λ z. omega (arith, z, first_some K m d c h)) ∙ ap Some (h.cells s)
 
-  pub from_table : Small K → (A : Structure) (table : List ℕ) (k v r : ℕ) → s < 8 → Slots K (row A) table → k ≤ count K s → v ≡ number K s k
-      → r ≡ cond (eqb (get_or table (v * 8) 0) 255) 255 (cond (eqb (get_or table (v * 8 + s) 0) v) 0 (get_or table (v * 8 + s) 0)) → r ≡ pick_of K s k (count_in s (row A s k))
-  from_table m A table k v r l t h e q = from_numbers m (row A s k) (row_of table v) k v r (slot_row K (row A) table s k v t h e) e (q ∙ rw (row_first table v, row_cell table v s l) refl)
+  pub from_table : Small K → (A : Structure) (table : List ℕ) (k : ℕ) (found : Option ℕ) → s < 8 → Slots K (row A) table → k ≤ count K s
+      → (get_or table (number K s k * 8) 0 ≡ 255 → found ≡ None) → ((get_or table (number K s k * 8) 0 ≡ 255 → ⊥) → found ≡ Some (get_or table (number K s k * 8 + s) 0))
+      → Numbers K s (count_in s (row A s k)) found
+  from_table m A table k found l t h e f =
+      let v : ℕ = number K s k in
+      from_numbers m (row A s k) (row_of table v) found (slot_row K (row A) table s k v t h refl) (λ z. e (sym (row_first table v) ∙ z))
+      (λ z. f (λ y. z (row_first table v ∙ y)) ∙ ap Some (sym (row_cell table v s l)))
 
-  -- A row in counts, i being the number of its count of s.
-  from_counts : (o : Option Cut) (ws : List ℕ) (at n k v i r : ℕ) → s < n → decoded (take n (drop at ws)) ≡ o → ((d : Cut) → o ≡ some d → Consistent K d) → v ≡ number K s k
-      → (get_or ws (at + s) 0 ≤ count K s → i ≡ number K s (get_or ws (at + s) 0)) → r ≡ cond (eqb (get_or ws at 0) 255) 255 (cond (eqb i v) 0 i) → r ≡ pick_of K s k (count_in s o)
+  -- The event found by a row in counts.
+  from_counts : (o : math.Option Cut) (ws : List ℕ) (at n : ℕ) (found : Option ℕ) → s < n → decoded (take n (drop at ws)) ≡ o → ((d : Cut) → o ≡ some d → Consistent K d)
+      → (get_or ws at 0 ≡ 255 → found ≡ None) → (get_or ws (at + s) 0 ≤ count K s → (get_or ws at 0 ≡ 255 → ⊥) → found ≡ Some (number K s (get_or ws (at + s) 0)))
+      → Numbers K s (count_in s o) found
   unfolding count_in
-  from_counts none ws at n k v i r l h p e g q = q ∙ rw (eq-eqb (get_or ws at 0) 255 (go (ℕ_discrete (get_or ws at 0) 255))) refl
+  from_counts none ws at n found l h p e f = e (go (ℕ_discrete (get_or ws at 0) 255))
     where
       go : Dec (get_or ws at 0 ≡ 255) → get_or ws at 0 ≡ 255
       go (yes z) = z
@@ -65,7 +72,7 @@ module _ (K : Computation) (s : ℕ) where
           let y : some (take n (drop at ws)) ≡ none = sym (decoded-some (take n (drop at ws)) (λ u. z (sym (first-at ws at) ∙ sym (get_or-take n (drop at ws) 0 0 (omega arith)) ∙ u))) ∙ h in
           let n : ◌≡◌ {A = ℕ} 0 1 = cc in
           absurd (omega arith)
-  from_counts (some d) ws at n k v i r l h p e g q = q ∙ rw (ne_eqb (get_or ws at 0) 255 there, is, e) (pick_number (d ! s) k)
+  from_counts (some d) ws at n found l h p e f = f (omega (arith, cell, (p d refl).within s)) there ∙ ap (λ (i : ℕ). Some (number K s i)) cell
     where
       row_is : take n (drop at ws) ≡ d
       row_is = decoded-is (take n (drop at ws)) d h
@@ -79,14 +86,16 @@ module _ (K : Computation) (s : ℕ) where
       cell : get_or ws (at + s) 0 ≡ d ! s
       cell = sym (get_or-drop at ws s 0) ∙ sym (get_or-take n (drop at ws) s 0 l) ∙ ap (λ (c : List ℕ). get_or c s 0) row_is
 
-      is : i ≡ number K s (d ! s)
-      is = g (omega (arith, cell, (p d refl).within s)) ∙ ap (number K s) cell
+  pub from_rows : (A : Structure) (ws : List ℕ) (from n k : ℕ) (found : Option ℕ) → s < n → Rows K (row A) n from ws → k ≤ count K s
+      → (get_or ws (from + number K s k * n) 0 ≡ 255 → found ≡ None)
+      → (get_or ws (from + number K s k * n + s) 0 ≤ count K s → (get_or ws (from + number K s k * n) 0 ≡ 255 → ⊥) → found ≡ Some (number K s (get_or ws (from + number K s k * n + s) 0)))
+      → Numbers K s (count_in s (row A s k)) found
+  from_rows A ws from n k found l t h e f = from_counts (row A s k) ws (from + number K s k * n) n found l (t.says s k h) (t.consistent s k h) e f
 
-  pub from_rows : (A : Structure) (ws : List ℕ) (from n k v i r : ℕ) → s < n → Rows K (row A) n from ws → k ≤ count K s → v ≡ number K s k
-      → (get_or ws (from + v * n + s) 0 ≤ count K s → i ≡ number K s (get_or ws (from + v * n + s) 0)) → r ≡ cond (eqb (get_or ws (from + v * n) 0) 255) 255 (cond (eqb i v) 0 i)
-      → r ≡ pick_of K s k (count_in s (row A s k))
-  from_rows A ws from n k v i r l t h e g q =
-      from_counts (row A s k) ws (from + v * n) n k v i r l (ap (λ (y : ℕ). decoded (take n (drop (from + y * n) ws))) e ∙ t.says s k h) (t.consistent s k h) e g q
+  -- The entry to look up where this event is found.
+  pub entry-found : (k : ℕ) (o : math.Option ℕ) (found : Option ℕ) → Numbers K s o found → entry_of found (number K s k) ≡ pick_of K s k o
+  entry-found k none found e = rw e refl
+  entry-found k (some i) found e = rw e (pick_number i k)
 
   -- The events before k are done.
   abbrev pub Picked : Structure → List ℕ → ℕ → Type 0

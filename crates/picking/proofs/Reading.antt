@@ -1,16 +1,15 @@
 -- Laws of reading and writing a row of a table.
-use mathlib.Core.Path.{◌≡◌, sym, ap, ◌∙◌, subst}
+use mathlib.Core.Path.{◌≡◌, ap, ◌∙◌, subst}
 use Prim.Native.Nat.{ℕ, ◌+◌, ◌*◌, ◌≤◌, ◌<◌}
 use native.Mathlib.Omega.{arith}
 use native.Mathlib.Decide.{dec_lt}
 use mathlib.Core.List.{List}
 use mathlib.Core.Option.{Option}
-use lib.ListN.{length, get_or, take, drop, replicate, length-drop}
+use Rattle.std.proofs.lemmas.Grind.{common_steps}
+use lib.ListN.{length, get_or, take, drop, length-drop}
 use lib.Seq.{paste, get_or-take, get_or-drop, take_all, length-take-le}
-use Rattle.model.specs.Cut.{Cut, join}
+use Rattle.model.specs.Cut.{Cut}
 use Rattle.model.specs.Computation.{Computation, count}
-use Rattle.lattice.proofs.Cuts.{length-join}
-use Rattle.cells.proofs.Cuts.{join_zeros}
 use Rattle.cells.proofs.Parts.{part_same, paste_front, paste_part, paste_behind}
 use Rattle.slots.specs.Slots.{number, Says, Slots}
 use Rattle.picking.specs.Rows.{row_of}
@@ -25,19 +24,12 @@ row_first table i = let e : i * 8 + 0 ≡ i * 8 = omega arith in row_cell table 
 pub slot_row : (K : Computation) (R : ℕ → ℕ → Option Cut) (table : List ℕ) (j k i : ℕ) → Slots K R table → k ≤ count K j → i ≡ number K j k → Says K (R j k) (row_of table i)
 slot_row K R table j k i t h e = let p : 8 * number K j k ≡ i * 8 = omega arith in subst (λ (y : ℕ). Says K (R j k) (take 8 (drop y table))) p (t j k h)
 
--- Eight cells read.
-pub row_read : (r l : List ℕ) (at : ℕ) → take 8 r ≡ take 8 (drop at l) → length r ≡ 8 → r ≡ take 8 (drop at l)
-row_read r l at e h = sym (take_all 8 r (omega arith)) ∙ e
-
 pub row-length : (table : List ℕ) (i : ℕ) → length table ≡ 2048 → i < 256 → length (row_of table i) ≡ 8
 row-length table i l h = length-take-le 8 (drop (i * 8) table) (omega (arith, length-drop (i * 8) table))
 
-pub join-length : (a b : List ℕ) → length a ≡ 8 → length b ≡ 8 → length (join a b) ≡ 8
-join-length a b h l = omega (arith, length-join a b)
-
--- Two rows joined one after the other.
-pub joined-rows : (a b : List ℕ) (i k : ℕ) (t t₂ : List ℕ) → length a ≡ 2048 → i < 256 → t ≡ join (replicate 8 0) (row_of a i) → t₂ ≡ join t (row_of b k) → t₂ ≡ join (row_of a i) (row_of b k)
-joined-rows a b i k t t₂ l h e f = f ∙ ap (λ (x : List ℕ). join x (row_of b k)) (e ∙ join_zeros 8 8 (drop (i * 8) a) (omega arith) (omega (arith, length-drop (i * 8) a)))
+-- A row copied to eight cells.
+pub row_copied : (table l l₂ : List ℕ) (i : ℕ) → length l ≡ 8 → l₂ ≡ paste l 0 (drop (i * 8) table) 8 → l₂ ≡ row_of table i
+row_copied table l l₂ i h e = grind (arith, common_steps, e)
 
 -- A row written.
 module _ (table a : List ℕ) (v : ℕ) (l : length table ≡ 2048) (h : v < 256) (m : length a ≡ 8) where

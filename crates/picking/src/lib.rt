@@ -3,19 +3,30 @@
 // What is looked up is joined row by row.
 #![tactic(auto)]
 
-ghost use Rattle.std.specs.Prelude.{◌≡◌, cond, ℕ, ◌+◌, ◌*◌, ◌≤◌, ◌<◌, eqb, length, get_or, take};
+ghost use Rattle.std.specs.Prelude.{◌≡◌, ℕ, ◌+◌, ◌*◌, ◌≤◌, ◌<◌, length, get_or, take, Option, Some, None};
 ghost use Rattle.std.proofs.Math.Seq.{paste};
 ghost use Rattle.model.specs.Lists.{total};
 ghost use Rattle.model.specs.Cut.{join};
-ghost use Rattle.model.specs.Computation.{Computation, full};
+ghost use Rattle.model.specs.Computation.{Computation, count, full};
 ghost use Rattle.model.specs.Structure.{Structure, row};
-ghost use Rattle.structure.specs.Shaped.{Shaped};
+ghost use Rattle.lattice.specs.OfStation.{count_in};
 ghost use Rattle.slots.specs.Slots.{number, Slots, Rows};
-ghost use Rattle.picking.specs.Formed.{Formed, Picks};
+ghost use Rattle.picking.specs.Formed.{Formed, Picks, Numbers, entry_of};
 ghost use Rattle.picking.specs.Rows.{row_of};
 
-use cells::{NONE, wide};
+use cells::NONE;
+use slots::Table;
 use structure::Shape;
+
+// A station, and whether the set that is of it is the right one of a pair.
+#[derive(Clone, Copy)]
+pub struct Station {
+    pub x: Shape,
+    pub s: usize,
+    // A bool, as in the laws: a side would be turned into one in each clause.
+    pub right: bool,
+    pub ghost there: { s < x.n },
+}
 
 // The number of event k of a station, from the events of all stations before it.
 pub fn number(before: usize, k: usize) -> usize
@@ -25,74 +36,108 @@ pub fn number(before: usize, k: usize) -> usize
     if k == 0 { 0 } else { before + k }
 }
 
-// The number that a count of a station with `most` events says; 255 if there is no such event.
-fn number_of(count: u8, before: usize, most: usize) -> u8
+// The number that a count of a station with `most` events says, if there is such an event.
+fn number_of(count: u8, before: usize, most: usize) -> Option<u8>
     requires { before + most ≤ 254 }
-    ensures { ((K : Computation) (s : ℕ) → before ≡ total (take s (full K)) → count ≤ most → result ≡ number K s count) × (most < count → result ≡ 255) }
+    ensures { (K : Computation) (s : ℕ) → before ≡ total (take s (full K)) → count ≤ most → result ≡ Some (number K s count) }
 {
-    let k = wide(count);
+    let k = usize::from(count);
     if most < k {
-        return NONE;
+        None
+    } else {
+        Some(number(before, k) as u8)
     }
-    number(before, k) as u8
 }
 
-// The entry to look up for event v, in whose row event i is found; `first` is the row's first cell.
-fn entry_place(first: u8, i: u8, v: usize) -> u8
-    ensures { result ≡ cond (eqb first 255) 255 (cond (eqb i v) 0 i) }
+// The entry to look up for event v, for which this event is found.
+fn entry_of(found: Option<u8>, v: usize) -> u8
+    ensures { result ≡ entry_of found v }
 {
-    if first == NONE {
-        return NONE;
+    match found {
+        Some(i) => if usize::from(i) == v { 0 } else { i },
+        None => NONE,
     }
-    if wide(i) == v { 0 } else { i }
 }
 
-// The entries to look up for each event of s, by a set that stands in a table.
-pub fn pick_numbers(marks: &mut [u8; 512], table: &[u8; 2048], x: Shape, s: usize)
-    requires shaped { Shaped x }
-    requires s_lt_n { (s < x.n) × (length marks.old ≡ 512) × (length table.now ≡ 2048) }
-    ensures { (length marks.new ≡ 512) × ((K : Computation) (A : Structure) → Formed K x → Slots K (row A) table.now → Picks K s A marks.new) × ((i : ℕ) → 256 ≤ i → get_or marks.new i 0 ≡ get_or marks.old i 0) }
+// The entries to look up for each event of a station, if `found` says for an event's number the number of the event that the set finds.
+fn pick<F: Fn(usize) -> Option<u8>>(q: Station, found: F) -> [u8; 256]
+    requires { (v : ℕ) → v ≤ q.x.e → F.pre found v }
+    ensures { (K : Computation) (A : Structure) → Formed K q.x
+        → ((k : ℕ) (o : Option ℕ) → k ≤ count K q.s → F.post found (number K q.s k) o → Numbers K q.s (count_in q.s (row A q.s k)) o) → Picks K q.s A result }
 {
-    let counts = x.counts;
-    let offs = x.offs;
-    let most = wide(counts[s]);
-    let before = wide(offs[s]);
-    let mut k = 0;
-    while k <= most {
+    let before = usize::from(q.x.offs[q.s]);
+    let most = usize::from(q.x.counts[q.s]);
+    let mut picks = [0u8; 256];
+    for k in 0..most + 1 {
         let v = number(before, k);
-        marks[v] = entry_place(table[v * 8], table[v * 8 + s], v);
-        k += 1;
+        picks[v] = entry_of(found(v), v);
     }
+    picks
+}
+
+// The entries to look up by a set that stands in a table.
+pub fn pick_numbers(table: &Table, q: Station) -> [u8; 256]
+    ensures { (K : Computation) (A : Structure) → Formed K q.x → Slots K (row A) table.now → Picks K q.s A result }
+{
+    let s = q.s;
+    pick(
+        q,
+        |v: usize| -> Option<u8>
+            requires { (v ≤ 254) × (s < 8) }
+            ensures none { get_or table.entry.now (v * 8) 0 ≡ 255 → result ≡ None }
+            ensures some { (get_or table.entry.now (v * 8) 0 ≡ 255 → ⊥) → result ≡ Some (get_or table.entry.now (v * 8 + s) 0) }
+        {
+            let i = table[v * 8 + s];
+            if table[v * 8] == NONE { None } else { Some(i) }
+        },
+    )
 }
 
 // The same by a set that stands at a place of ws.
-pub fn pick_counts(marks: &mut [u8; 512], ws: &[u8], from: usize, x: Shape, s: usize)
-    requires shaped { Shaped x }
-    requires s_lt_n { (s < x.n) × (length marks.old ≡ 512) × (from + (x.e + 1) * x.n ≤ length ws.now) }
-    ensures { (length marks.new ≡ 512) × ((K : Computation) (A : Structure) → Formed K x → Rows K (row A) x.n from ws.now → Picks K s A marks.new) × ((i : ℕ) → 256 ≤ i → get_or marks.new i 0 ≡ get_or marks.old i 0) }
+pub fn pick_counts(ws: &[u8], from: usize, q: Station) -> [u8; 256]
+    requires { from + (q.x.e + 1) * q.x.n ≤ length ws.now }
+    ensures { (K : Computation) (A : Structure) → Formed K q.x → Rows K (row A) q.x.n from ws.now → Picks K q.s A result }
 {
-    let n = x.n;
-    let counts = x.counts;
-    let offs = x.offs;
-    let most = wide(counts[s]);
-    let before = wide(offs[s]);
-    let mut k = 0;
-    while k <= most {
-        let v = number(before, k);
-        let at = from + v * n;
-        let i = number_of(ws[at + s], before, most);
-        marks[v] = entry_place(ws[at], i, v);
-        k += 1;
-    }
+    let n = q.x.n;
+    let s = q.s;
+    let before = usize::from(q.x.offs[s]);
+    let most = usize::from(q.x.counts[s]);
+    pick(
+        q,
+        |v: usize| -> Option<u8>
+            requires { (from + v * n + n ≤ length ws.now) × (s < n) × (before + most ≤ 254) }
+            ensures none { get_or ws.entry.now (from + v * n) 0 ≡ 255 → result ≡ None }
+            ensures some { (K : Computation) → before ≡ total (take s (full K)) → get_or ws.entry.now (from + v * n + s) 0 ≤ most
+                → (get_or ws.entry.now (from + v * n) 0 ≡ 255 → ⊥) → result ≡ Some (number K s (get_or ws.entry.now (from + v * n + s) 0)) }
+        {
+            let at = from + v * n;
+            let i = number_of(ws[at + s], before, most);
+            if ws[at] == NONE { None } else { i }
+        },
+    )
 }
 
-// Row i of one table joined with row k of another, as row i of a third.
-pub fn join_row(out: &mut [u8; 2048], i: usize, a: &[u8; 2048], b: &[u8; 2048], k: usize)
-    requires { (length out.old ≡ 2048) × (length a.now ≡ 2048) × (length b.now ≡ 2048) × (i < 256) × (k < 256) }
-    ensures { out.new ≡ paste out.old (i * 8) (join (row_of a.now i) (row_of b.now k)) 8 }
+// Row i of a table.
+pub fn row_at(table: &Table, i: usize) -> &[u8; 8]
+    requires { i < 256 }
+    ensures { result.now ≡ row_of table.now i }
 {
-    let mut t = [0u8; 8];
-    cells::join_eight(&mut t, a, i * 8);
-    cells::join_eight(&mut t, b, k * 8);
-    cells::copy(out, i * 8, &t, 0, 8);
+    table[i * 8..i * 8 + 8].first_chunk::<8>().unwrap()
+}
+
+// Row i of a table, written.
+pub fn put_row(table: &mut Table, i: usize, row: &[u8; 8])
+    requires { i < 256 }
+    ensures { table.new ≡ paste table.old (i * 8) row.now 8 }
+{
+    cells::copy(table, i * 8, row, 0, 8);
+}
+
+// Row i of one table joined with row k of another. It goes to cells of the caller's, since eight handed back would be joined one by one.
+pub fn join_row(out: &mut [u8; 8], a: &Table, i: usize, b: &Table, k: usize)
+    requires { (i < 256) × (k < 256) }
+    ensures { out.new ≡ join (row_of a.now i) (row_of b.now k) }
+{
+    cells::copy(out, 0, a, i * 8, 8);
+    cells::join_eight(out, b, k * 8);
 }

@@ -1,5 +1,5 @@
 -- Laws of raising in a table: the loop over eight stations, of which those past n join the least cut again.
-use mathlib.Core.Path.{◌≡◌, sym, ap, ◌∙◌, subst}
+use mathlib.Core.Path.{◌≡◌, refl, sym, ap, ◌∙◌, subst}
 use Prim.Native.Nat.{ℕ, zero, suc, ◌+◌, ◌*◌, ◌-◌, ◌≤◌}
 use native.Mathlib.Omega.{arith}
 use native.Mathlib.Numerals.{add-one}
@@ -13,7 +13,7 @@ use Rattle.model.specs.Basis.{then_right}
 use Rattle.cells.proofs.Cuts.{join_zeros}
 use Rattle.structure.proofs.Raising.{raise_absorbs}
 use Rattle.slots.specs.Slots.{number, Small, Coded, Says, Slots}
-use Rattle.numbering.proofs.Numbers.{join-says, says_none}
+use Rattle.numbering.proofs.Numbers.{join-says, says_none, says_some}
 
 -- Stations that are not there add nothing.
 raise-more : (S : Structure) (x : Cut) (k : ℕ) → raise_by S x (k + length x) ≡ raise_by S x (length x)
@@ -41,17 +41,16 @@ module _ (K : Computation) (S : Structure) (x : Cut) (table cut : List ℕ) (m :
       let a : at ≡ 8 * number K j (x ! j) = omega (arith, h.cells j) in
       rw (add-one j, e, a) (join-says K m (raise_by S x j) (row S j (x ! j)) acc (take 8 (drop (8 * number K j (x ! j)) table)) g (s j (x ! j) (h.consistent.within j)))
 
-  pub rise_end : (j : ℕ) (acc out : List ℕ) → j ≡ 8 → out ≡ acc → Says K (raise_by S x j) acc → Says K (raise S x) out
-  rise_end j acc out q e g =
-      rw e (subst (λ (o : Option Cut). Says K o acc) (ap (raise_by S x) q ∙ raise-eight S x (omega (arith, h.consistent.size, m.few_stations))) g)
+  pub rise_end : (j : ℕ) (acc : List ℕ) → j ≡ 8 → Says K (raise_by S x j) acc → Says K (raise S x) acc
+  rise_end j acc q g = subst (λ (o : Option Cut). Says K o acc) (ap (raise_by S x) q ∙ raise-eight S x (omega (arith, h.consistent.size, m.few_stations))) g
 
 -- None is raised to none, a cut as the loop raises it.
-pub rise_none : (K : Computation) (S : Structure) (o : Option Cut) (cut out : List ℕ) → Small K → Says K o cut → get_or cut 0 0 ≡ 255 → out ≡ replicate 8 255 → Says K (then_right S o) out
-unfolding then_right
-rise_none K S none cut out m h f e = ap (λ (x : List ℕ). get_or x 0 0) e
-rise_none K S (some x) cut out m h f e = let z : some x ≡ none = says_none K m (some x) cut h f in let y : ◌≡◌ {A = ℕ} 0 1 = cc in absurd (omega arith)
+module _ (K : Computation) (S : Structure) (o : Option Cut) where
+  pub rise_none : (cut : List ℕ) → Small K → Says K o cut → get_or cut 0 0 ≡ 255 → then_right S o ≡ none
+  unfolding then_right
+  rise_none cut m h f = rw (says_none K m o cut h f) refl
 
-pub rise_some : (K : Computation) (S : Structure) (o : Option Cut) (cut out : List ℕ) → Says K o cut → (get_or cut 0 0 ≡ 255 → ⊥) → ((x : Cut) → Coded K x cut → Says K (raise S x) out) → Says K (then_right S o) out
-unfolding then_right
-rise_some K S none cut out h f k = absurd (f h)
-rise_some K S (some x) cut out h f k = k x h
+  pub risen : (table cut : List ℕ) (j : ℕ) (acc : List ℕ) → Small K → Slots K (row S) table → Says K o cut → (get_or cut 0 0 ≡ 255 → ⊥) → j ≡ 8
+      → ((x : Cut) → Small K → Slots K (row S) table → Coded K x cut → Says K (raise_by S x j) acc) → Says K (then_right S o) acc
+  unfolding then_right
+  risen table cut j acc m t h f q k = let v = says_some K m o cut h f in rw v.1 (rise_end K S v.0 table cut m t v.2 j acc q (k v.0 m t v.2))

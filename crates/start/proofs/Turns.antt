@@ -3,7 +3,7 @@ use mathlib.Core.Path.{◌≡◌, refl, sym, ap, subst, ◌∙◌}
 use Prim.Native.Nat.{ℕ, suc, ◌+◌, ◌*◌, ◌-◌, ◌≤◌}
 use native.Mathlib.Nat.{add-zero}
 use native.Mathlib.Omega.{arith}
-use mathlib.Core.Bool.{Bool, true, false}
+use mathlib.Core.Bool.{true, false}
 use mathlib.Core.List.{List}
 use mathlib.Core.Option.{none, some}
 use lib.ListN.{take, drop}
@@ -15,25 +15,19 @@ use Rattle.model.specs.Basis.{run}
 use Rattle.lattice.proofs.Consistency.{clock-consistent}
 use Rattle.lattice.proofs.Shortcuts.{came, later, after_left, next_left, quick_on, quick_run}
 use Rattle.slots.specs.Slots.{number, Coded}
-use Rattle.round.specs.Said.{reading, Answers}
+use Rattle.round.specs.Said.{reading, Came, Answers}
 use Rattle.slots.specs.Pair.{Both, Clocks}
-use Rattle.slots.proofs.Reached.{reached_raised, reached-lost}
 use Rattle.start.specs.Ended.{Ended}
-use Rattle.start.specs.declared.Start.{Start}
-use Rattle.round.specs.declared.Round.TheVariants as round
-use Rattle.round.specs.declared.RoundResult.{RoundResult}
-use Rattle.slots.specs.declared.Outcome.TheVariants as outcome
+use Rattle.round.specs.declared.Round.{Round}
+use Rattle.std.specs.Prelude.{Some, None}
 
 -- ANSWERS
 
-pub ended_lost : (K : Computation) (o : rule.Outcome) (any : List ℕ) (n : ℕ) → o ≡ came none n → Ended K o (record { outcome = outcome.Lost; cut = any; rounds = n })
-ended_lost K o any n e = record { rounds = sym (ap (λ (x : rule.Outcome). x.rounds) e); reached = reached-lost K any o.reached (ap (λ (x : rule.Outcome). x.reached) e) }
+pub ended_lost : (K : Computation) (o : rule.Outcome) (n : ℕ) → o ≡ came none n → Ended K o (record { cut = None; rounds = n })
+ended_lost K o n e = rw e (record { rounds = refl; reached = refl })
 
-pub ended_raised : (K : Computation) (o : rule.Outcome) (y : Cut) (cut : List ℕ) (n : ℕ) → o ≡ came (some y) n → Coded K y cut → Ended K o (record { outcome = outcome.Raised; cut = cut; rounds = n })
-ended_raised K o y cut n e h = record { rounds = sym (ap (λ (x : rule.Outcome). x.rounds) e); reached = reached_raised K cut o.reached y (ap (λ (x : rule.Outcome). x.reached) e) h }
-
-pub ended_by : (K : Computation) (o q : rule.Outcome) (r : Start) → o ≡ q → Ended K q r → Ended K o r
-ended_by K o q r e h = rw e h
+pub ended_raised : (K : Computation) (o : rule.Outcome) (y : Cut) (cut : List ℕ) (n : ℕ) → o ≡ came (some y) n → Coded K y cut → Ended K o (record { cut = Some cut; rounds = n })
+ended_raised K o y cut n e h = rw e (record { rounds = refl; reached = (y, refl, h) })
 
 -- LATER ROUNDS
 
@@ -48,33 +42,36 @@ begins S T e c =
     let s : suc o.rounds ≡ 1 + o.rounds = omega arith in
     ap (came o.reached) s ∙ ap (λ (m : ℕ). plus 1 (quick_on S T m c)) (sym q)
 
-module _ (K : Computation) (S T : Structure) (e k : ℕ) (h : k ≤ e) (c : Cut) (r : RoundResult) (p : Answers K T (λ go. next_left go T c (raise S c)) r) where
-  more : quick_on S T (suc e - k) c ≡ reading (quick_on S T (suc e - (k + 1))) r.outcome r.settled p.cut
+module _ (K : Computation) (S T : Structure) (e k : ℕ) (h : k ≤ e) (c : Cut) where
+  more : (F : (Cut → rule.Outcome) → rule.Outcome) → ((go : Cut → rule.Outcome) → next_left go T c (raise S c) ≡ F go) → quick_on S T (suc e - k) c ≡ F (quick_on S T (suc e - (k + 1)))
   unfolding quick_on
-  more = let q : suc e - k ≡ suc (suc e - (k + 1)) = omega arith in ap (λ (m : ℕ). quick_on S T m c) q ∙ p.says (quick_on S T (suc e - (k + 1)))
+  more F p = let q : suc e - k ≡ suc (suc e - (k + 1)) = omega arith in ap (λ (m : ℕ). quick_on S T m c) q ∙ p (quick_on S T (suc e - (k + 1)))
 
-  pub turn_lost : r.outcome ≡ round.Lost → plus k (quick_on S T (suc e - k) c) ≡ came none (k + 1)
-  unfolding reading
-  turn_lost f = ap (plus k) (more ∙ rw f refl)
+  pub turn_lost : Answers K T (λ go. next_left go T c (raise S c)) None → plus k (quick_on S T (suc e - k) c) ≡ came none (k + 1)
+  turn_lost p = ap (plus k) (more (λ go. came none 1) p)
 
-  pub turn_ended : (t : Bool) → r.outcome ≡ round.Raised t → t ≡ false → plus k (quick_on S T (suc e - k) c) ≡ came (some p.cut) (k + 1)
-  unfolding reading
-  turn_ended t f u = ap (plus k) (more ∙ rw (f, u) refl)
+  module _ (r : Round) (p : Came K T (λ go. next_left go T c (raise S c)) r) where
+    read : quick_on S T (suc e - k) c ≡ reading (quick_on S T (suc e - (k + 1))) r.changed r.settled p.cut
+    read = more (λ go. reading go r.changed r.settled p.cut) p.says
 
-  pub turn_settled : (t : Bool) → r.outcome ≡ round.Raised t → t ≡ true → r.settled ≡ true → plus k (quick_on S T (suc e - k) c) ≡ came (some p.cut) (k + 1 + 1)
-  unfolding reading
-  turn_settled t f u w = let q : k + 2 ≡ k + 1 + 1 = omega arith in ap (plus k) (more ∙ rw (f, u, w) refl) ∙ ap (came (some p.cut)) q
+    pub turn_ended : r.changed ≡ false → plus k (quick_on S T (suc e - k) c) ≡ came (some p.cut) (k + 1)
+    unfolding reading
+    turn_ended u = ap (plus k) (read ∙ rw u refl)
 
-  pub turn_goes : (t : Bool) → r.outcome ≡ round.Raised t → t ≡ true → r.settled ≡ false → plus k (quick_on S T (suc e - k) c) ≡ plus (k + 1) (quick_on S T (suc e - (k + 1)) p.cut)
-  unfolding reading
-  turn_goes t f u w =
-      let o : rule.Outcome = quick_on S T (suc e - (k + 1)) p.cut in
-      let q : k + suc o.rounds ≡ k + 1 + o.rounds = omega arith in
-      ap (plus k) (more ∙ rw (f, u, w) refl) ∙ ap (came o.reached) q
+    pub turn_settled : r.changed ≡ true → r.settled ≡ true → plus k (quick_on S T (suc e - k) c) ≡ came (some p.cut) (k + 2)
+    unfolding reading
+    turn_settled u w = ap (plus k) (read ∙ rw (u, w) refl)
 
-pub turn_out : (S T : Structure) (e k : ℕ) (c : Cut) → k ≡ suc e → plus k (quick_on S T (suc e - k) c) ≡ came none k
+    pub turn_goes : r.changed ≡ true → r.settled ≡ false → plus k (quick_on S T (suc e - k) c) ≡ plus (k + 1) (quick_on S T (suc e - (k + 1)) p.cut)
+    unfolding reading
+    turn_goes u w =
+        let o : rule.Outcome = quick_on S T (suc e - (k + 1)) p.cut in
+        let q : k + suc o.rounds ≡ k + 1 + o.rounds = omega arith in
+        ap (plus k) (read ∙ rw (u, w) refl) ∙ ap (came o.reached) q
+
+pub turn_out : (S T : Structure) (e k : ℕ) (c : Cut) → k ≡ e + 1 → plus k (quick_on S T (suc e - k) c) ≡ came none (e + 1)
 unfolding quick_on
-turn_out S T e k c h = let q : suc e - k ≡ 0 = omega arith in rw (q, add-zero k) refl
+turn_out S T e k c h = let q : suc e - k ≡ 0 = omega arith in rw (q, add-zero k) (ap (came none) h)
 
 -- THE FIRST ROUND
 
@@ -84,26 +81,28 @@ clock_read K first j k i x t l q e =
     let p : i * 8 ≡ 8 * number K j k = omega arith in subst (λ (y : List ℕ). Coded K (clock K j k) y) (sym (e ∙ ap (λ (y : ℕ). take 8 (drop y first)) p)) (t j k l)
 
 -- Its answer, and what follows.
-module _ (K : Computation) (S T : Structure) (left right : List ℕ) (e : ℕ) (q : event_count K ≡ e) (b : Both K S T left right) (j k : ℕ) (l : k ≤ count K j) (r : RoundResult)
-    (p : Answers K T (λ go. after_left go T (clock K j k) (raise S (clock K j k))) r) where
+module _ (K : Computation) (S T : Structure) (left right : List ℕ) (e : ℕ) (q : event_count K ≡ e) (b : Both K S T left right) (j k : ℕ) (l : k ≤ count K j) where
   abbrev c : Cut
   c = clock K j k
 
-  first : run S T (suc e) c ≡ reading (quick_on S T e) r.outcome r.settled p.cut
-  first = sym (quick_run K S T b.good_left b.good_right e c (clock-consistent K b.small.valid j k l) (omega arith)) ∙ p.says (quick_on S T e)
+  abbrev first : (Cut → rule.Outcome) → rule.Outcome
+  first go = after_left go T c (raise S c)
 
-  pub first-lost : r.outcome ≡ round.Lost → run S T (suc e) c ≡ came none 1
-  unfolding reading
-  first-lost f = first ∙ rw f refl
+  runs : run S T (suc e) c ≡ first (quick_on S T e)
+  runs = sym (quick_run K S T b.good_left b.good_right e c (clock-consistent K b.small.valid j k l) (omega arith))
 
-  pub first_ended : (t : Bool) → r.outcome ≡ round.Raised t → t ≡ false → run S T (suc e) c ≡ came (some p.cut) 1
-  unfolding reading
-  first_ended t f u = first ∙ rw (f, u) refl
+  pub first_lost : Answers K T first None → run S T (suc e) c ≡ came none 1
+  first_lost p = runs ∙ p (quick_on S T e)
 
-  pub first-settled : (t : Bool) → r.outcome ≡ round.Raised t → t ≡ true → r.settled ≡ true → run S T (suc e) c ≡ came (some p.cut) 2
-  unfolding reading
-  first-settled t f u w = first ∙ rw (f, u, w) refl
+  module _ (r : Round) (p : Came K T first r) where
+    pub first_ended : r.changed ≡ false → run S T (suc e) c ≡ came (some p.cut) 1
+    unfolding reading
+    first_ended u = runs ∙ p.says (quick_on S T e) ∙ rw u refl
 
-  pub first_goes : (t : Bool) → r.outcome ≡ round.Raised t → t ≡ true → r.settled ≡ false → run S T (suc e) c ≡ later (quick_on S T e p.cut)
-  unfolding reading
-  first_goes t f u w = first ∙ rw (f, u, w) refl
+    pub first_settled : r.changed ≡ true → r.settled ≡ true → run S T (suc e) c ≡ came (some p.cut) 2
+    unfolding reading
+    first_settled u w = runs ∙ p.says (quick_on S T e) ∙ rw (u, w) refl
+
+    pub first_goes : r.changed ≡ true → r.settled ≡ false → run S T (suc e) c ≡ later (quick_on S T e p.cut)
+    unfolding reading
+    first_goes u w = runs ∙ p.says (quick_on S T e) ∙ rw (u, w) refl

@@ -8,4 +8,4 @@ use Rattle.start.specs.declared.Start.{Start}
 -- A start's answer says the rule's outcome.
 pub record Ended (K : Computation) (o : rule.Outcome) (r : Start) : Type 0 where
   pub rounds : r.rounds ≡ o.rounds
-  pub reached : Reached K r.outcome r.cut o.reached
+  pub reached : Reached K r.cut o.reached

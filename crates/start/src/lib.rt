@@ -2,7 +2,7 @@
 // counted and not run.
 #![tactic(auto)]
 
-ghost use Rattle.std.specs.Prelude.{◌≡◌, ℕ, suc, ◌+◌, ◌≤◌, length};
+ghost use Rattle.std.specs.Prelude.{◌≡◌, ℕ, suc, ◌+◌, ◌≤◌};
 ghost use Rattle.model.specs.Cut.{Cut};
 ghost use Rattle.model.specs.Computation.{Computation, event_count, count, clock};
 ghost use Rattle.model.specs.Structure.{Structure};
@@ -13,95 +13,74 @@ ghost use Rattle.slots.specs.Slots.{number, Coded};
 ghost use Rattle.slots.specs.Pair.{Both, Clocks};
 ghost use Rattle.start.specs.Ended.{Ended};
 
-use round::{Round, first_round, next_round};
-use slots::Outcome;
+use round::{first_round, next_round};
+use slots::Table;
 
-// A start's outcome, the cut that it raised to, and its rounds.
+// What a start came to, a cut or none, and its rounds.
 #[derive(Clone, Copy)]
 pub struct Start {
-    pub outcome: Outcome,
-    pub cut: [u8; 8],
+    pub cut: Option<[u8; 8]>,
     pub rounds: u32,
 }
 
 // The rounds of a start after the first, which came to a cut of the right set; at most e + 1 are run in all.
-fn more_rounds(left: &[u8; 2048], right: &[u8; 2048], e: usize, from: [u8; 8]) -> Start
-    requires { (length left.now ≡ 2048) × (length right.now ≡ 2048) × (e ≤ 254) }
-    ensures ended { (K : Computation) (S T : Structure) (x : Cut) → Both K S T left.now right.now → Coded K x from → In K T x → Ended K (later (quick_on S T e x)) result }
-    ensures rounds_bound { (result.rounds ≤ e + 2) × (length result.cut ≡ 8) }
+fn more_rounds(left: &Table, right: &Table, e: usize, mut cut: [u8; 8]) -> Start
+    requires { e ≤ 254 }
+    ensures ended { (K : Computation) (S T : Structure) (x : Cut) → Both K S T left.now right.now → Coded K x cut → In K T x → Ended K (later (quick_on S T e x)) result }
+    ensures rounds_bound { result.rounds ≤ e + 2 }
 {
-    let mut cut = from;
-    let mut rounds: u32 = 1;
-    let most = e as u32;
-    while rounds <= most {
-        let r = next_round(left, right, &cut);
-        rounds += 1;
-        let outcome = r.outcome;
-        let Round::Raised { changed } = outcome else {
+    let most = e as u32 + 1;
+    for rounds in 1..most {
+        let Some(round) = next_round(left, right, &cut) else {
             return Start {
-                outcome: Outcome::Lost,
-                cut: [0u8; 8],
-                rounds: rounds,
+                cut: None,
+                rounds: rounds + 1,
             };
         };
-        cut = r.cut;
-        if !changed {
+        cut = round.cut;
+        if !round.changed {
             return Start {
-                outcome: Outcome::Raised,
-                cut: cut,
-                rounds: rounds,
+                cut: Some(cut),
+                rounds: rounds + 1,
             };
         }
-        if r.settled {
+        if round.settled {
             return Start {
-                outcome: Outcome::Raised,
-                cut: cut,
-                rounds: rounds + 1,
+                cut: Some(cut),
+                rounds: rounds + 2,
             };
         }
     }
     Start {
-        outcome: Outcome::Lost,
-        cut: [0u8; 8],
-        rounds: rounds,
+        cut: None,
+        rounds: most,
     }
 }
 
 // One start: all rounds from the clock of event i.
-pub fn one_start(
-    left: &[u8; 2048],
-    right: &[u8; 2048],
-    first: &[u8; 2048],
-    e: usize,
-    i: usize,
-) -> Start
-    requires { (length left.now ≡ 2048) × (length right.now ≡ 2048) × (length first.now ≡ 2048) × (e ≤ 254) × (i ≤ e) }
+pub fn one_start(left: &Table, right: &Table, first: &Table, e: usize, i: usize) -> Start
+    requires { (e ≤ 254) × (i ≤ e) }
     ensures ended { (K : Computation) (S T : Structure) (j k : ℕ) → Both K S T left.now right.now → Clocks K first.now → event_count K ≡ e → k ≤ count K j → i ≡ number K j k
         → Ended K (run S T (suc e) (clock K j k)) result }
-    ensures rounds_bound { (result.rounds ≤ e + 2) × (length result.cut ≡ 8) }
+    ensures rounds_bound { result.rounds ≤ e + 2 }
 {
     let start = cells::cut_at(first, i * 8, 8);
-    let r = first_round(left, right, i, &start);
-    let outcome = r.outcome;
-    let Round::Raised { changed } = outcome else {
+    let Some(round) = first_round(left, right, i, &start) else {
         return Start {
-            outcome: Outcome::Lost,
-            cut: [0u8; 8],
+            cut: None,
             rounds: 1,
         };
     };
-    let cut = r.cut;
-    if !changed {
+    let cut = round.cut;
+    if !round.changed {
         return Start {
-            outcome: Outcome::Raised,
-            cut: cut,
+            cut: Some(cut),
             rounds: 1,
         };
     }
-    if r.settled {
+    if round.settled {
         return Start {
-            outcome: Outcome::Raised,
-            cut: cut,
+            cut: Some(cut),
             rounds: 2,
         };
     }

@@ -1,52 +1,47 @@
 -- Marks of no set, of one, of two lists one behind the other, and of structures that stand in a workspace.
 use mathlib.Core.Path.{◌≡◌, refl, sym, ap, ap₂, subst, ◌∙◌}
-use mathlib.Core.Logic.{◌⊎◌, inl, inr, ⊎_elim}
 use Prim.Native.Nat.{ℕ, zero, suc, ◌+◌, ◌-◌, ◌*◌, ◌≤◌, ◌<◌}
 use native.Mathlib.Omega.{arith}
-use mathlib.Core.List.{List, [], ◌∷◌, ◌++◌}
+use mathlib.Core.List.{List, [], ◌∷◌, ◌++◌, append-nil}
 use mathlib.Core.Option.{some}
-use mathlib.Core.Bool.{Bool, true, false}
-use lib.Dec.{ltb}
-use lib.ListN.{length, get_or, get_elem?, drop, replicate, get_or-eq_default}
-use lib.Seq.{paste, get_or-take, get_or-drop, drop-drop}
-use borrow.Author.Tests.{ltb-true, ltb-false}
+use Rattle.std.specs.Prelude.{Option, Some, None}
+use borrow.Author.Rules.{rules}
+use lib.ListN.{length, get_or, get_elem?, take, drop, replicate, get_or-eq_default, get_or-append, drop_of_length-le}
+use lib.Seq.{paste, get_or-take, drop-drop, length-take-le, get_or-append_right}
+use native.Mathlib.Decide.{dec_lt}
 use Rattle.model.specs.Computation.{Computation}
 use Rattle.model.specs.Structure.{Structure}
 use Rattle.lattice.specs.OfStation.{OfOwnRows}
 use Rattle.lattice.proofs.Lists.{All, all_elem}
-use Rattle.cells.proofs.Parts.{paste_part, paste_other}
 use Rattle.structure.specs.Layout.{structure_at, standing, cells, bar_cells}
 use Rattle.structure.specs.Marks.{Mark, Marked, Within}
 
 -- NOTHING SAID
 
-no_mark : (m i : ℕ) → get_or (replicate {A = ℕ} m 0) i 0 ≡ 0
+no_mark : (m i : ℕ) → get_or (replicate {A = Option ℕ} m None) i None ≡ None
 no_mark zero i = refl
 no_mark (suc m) zero = refl
 no_mark (suc m) (suc i) = no_mark m i
 
--- Zeros say nothing.
-pub none-marked : (K : Computation) (L : List Structure) (m : ℕ) → Marked K L (replicate m 0)
-none-marked K L m = record { each = λ i A e s h. let z = no_mark m i in absurd (omega arith) }
+pub none-marked : (K : Computation) (L : List Structure) (m : ℕ) → Marked K L (replicate m None)
+none-marked K L m = record { each = λ i A e s h. let z = no_mark m i in search rules }
 
-pub none_within : (n m : ℕ) → Within n (replicate m 0)
-none_within n m i = omega (arith, no_mark m i)
+pub none_within : (n m : ℕ) → Within n (replicate m None)
+none_within n m i s h = let z = no_mark m i in search rules
 
 -- ONE STATION
 
-one_mark : (s m i : ℕ) → (get_or (suc s ∷ replicate m 0) i 0 ≡ suc s) ⊎ (get_or (suc s ∷ replicate m 0) i 0 ≡ 0)
-one_mark s m zero = inl refl
-one_mark s m (suc i) = inr (no_mark m i)
-
 -- All are of station s, and the first may be marked so.
-pub one-marked : (K : Computation) (L : List Structure) (s m : ℕ) → All (OfOwnRows K s) L → Marked K L (suc s ∷ replicate m 0)
-one-marked K L s m a = record {
-  each = λ i A e t h.
-      ⊎_elim (λ q. let z : s ≡ t = omega (arith, q, h) in subst (λ (x : ℕ). OfOwnRows K x A) z (all_elem L a i A e)) (λ q. absurd (omega (arith, q, h))) (one_mark s m i);
-}
+pub one-marked : (K : Computation) (L : List Structure) (s m : ℕ) → All (OfOwnRows K s) L → Marked K L (Some s ∷ replicate m None)
+one-marked K L s m a = record { each = λ i A e. one i (all_elem L a i A e) }
+  where
+    one : (i : ℕ) {A : Structure} → OfOwnRows K s A → Mark K (get_or (Some s ∷ replicate m None) i None) A
+    one zero {A} of t h = let z : s ≡ t = search rules in subst (λ (x : ℕ). OfOwnRows K x A) z of
+    one (suc i) of t h = let z = no_mark m i in search rules
 
-pub one-within : (n s m : ℕ) → s < n → Within n (suc s ∷ replicate m 0)
-one-within n s m h i = ⊎_elim (λ q. omega (arith, q)) (λ q. omega (arith, q)) (one_mark s m i)
+pub one-within : (n s m : ℕ) → s < n → Within n (Some s ∷ replicate m None)
+one-within n s m h zero t e = let z : s ≡ t = search rules in rw (← z) h
+one-within n s m h (suc i) t e = let z = no_mark m i in search rules
 
 -- ONE LIST BEHIND THE OTHER
 
@@ -60,42 +55,49 @@ elem_right [] R i = let e : 0 + i ≡ i = omega arith in rw e refl
 elem_right (S ∷ L) R i = let e : suc (length L) + i ≡ suc (length L + i) = omega arith in rw e (elem_right L R i)
 
 -- The marks of the second list behind those of the first, as far as there is room.
-module _ (l r : List ℕ) (k : ℕ) (h : k ≤ 16) (ll : length l ≡ 16) (lr : length r ≡ 16) where
-  mark_left : (i : ℕ) → i < k → get_or (paste l k r (16 - k)) i 0 ≡ get_or l i 0
-  mark_left i g = paste_other l k r (16 - k) (omega arith) (omega arith) i (inl g)
+module _ (l r : List (Option ℕ)) (k : ℕ) (h : k ≤ 16) (ll : length l ≡ 16) (lr : length r ≡ 16) where
+  abbrev m : ℕ
+  m = 16 - k
 
-  mark_right : (i : ℕ) → k + i < 16 → get_or (paste l k r (16 - k)) (k + i) 0 ≡ get_or r i 0
-  mark_right i g =
-      let p : i < 16 - k = omega arith in
-      sym (get_or-drop k (paste l k r (16 - k)) i 0) ∙ sym (get_or-take (16 - k) (drop k (paste l k r (16 - k))) i 0 p)
-      ∙ ap (λ (x : List ℕ). get_or x i 0) (paste_part l k r (16 - k) (omega arith) (omega arith)) ∙ get_or-take (16 - k) r i 0 p
+  front : length (take k l) ≡ k
+  front = length-take-le k l (omega arith)
 
-  mark_behind : (i : ℕ) → 16 ≤ i → get_or (paste l k r (16 - k)) i 0 ≡ get_or l i 0
-  mark_behind i g = paste_other l k r (16 - k) (omega arith) (omega arith) i (inr (omega arith))
+  both_are : paste l k r (16 - k) ≡ take k l ++ take m r
+  both_are =
+      let e : drop (k + m) l ≡ [] = drop_of_length-le l {i = k + m} (omega arith) in
+      ap (λ (x : List (Option ℕ)). (take k l ++ take m r) ++ x) e ∙ append-nil (take k l ++ take m r)
 
-  -- Each mark of both is one of the two, at its place.
-  module _ (i : ℕ) (Q : ℕ → Type 0) (left : i < k → Q (get_or l i 0)) (right : k ≤ i → Q (get_or r (i - k) 0)) (none-there : Q 0) where
-    by_mark : Q (get_or (paste l k r (16 - k)) i 0)
-    by_mark = go (ltb i k) refl (ltb i 16) refl
-      where
-        go : (t : Bool) → ltb i k ≡ t → (u : Bool) → ltb i 16 ≡ u → Q (get_or (paste l k r (16 - k)) i 0)
-        go true q u p = subst Q (sym (mark_left i (ltb-true i k q))) (left (ltb-true i k q))
-        go false q true p =
-            let a : k + (i - k) ≡ i = omega (arith, ltb-false i k q) in
-            let g : k + (i - k) < 16 = omega (arith, a, ltb-true i 16 p) in
-            subst Q (sym (mark_right (i - k) g) ∙ ap (λ (x : ℕ). get_or (paste l k r (16 - k)) x 0) a) (right (omega (arith, ltb-false i k q)))
-        go false q false p =
-            let g : 16 ≤ i = omega (arith, ltb-false i 16 p) in
-            subst Q (sym (mark_behind i g ∙ get_or-eq_default l 0 (omega arith))) none-there
+  mark_left : (i s : ℕ) → i < k → get_or (paste l k r (16 - k)) i None ≡ Some s → get_or l i None ≡ Some s
+  mark_left i s g e =
+      sym (get_or-take k l i None g) ∙ sym (get_or-append (take k l) (take m r) None i (omega (arith, front))) ∙ sym (ap (λ (x : List (Option ℕ)). get_or x i None) both_are) ∙ e
+
+  taken : (j s : ℕ) → get_or (take m r) j None ≡ Some s → get_or r j None ≡ Some s
+  taken j s e = go (dec_lt j m)
+    where
+      go : Dec (j < m) → get_or r j None ≡ Some s
+      go (yes g) = sym (get_or-take m r j None g) ∙ e
+      go (no f) = let z = get_or-eq_default (take m r) None {n = j} (omega (arith, length-take-le m r (omega arith))) in search rules
+
+  mark_right : (i s : ℕ) → k ≤ i → get_or (paste l k r (16 - k)) i None ≡ Some s → get_or r (i - k) None ≡ Some s
+  mark_right i s g e =
+      taken (i - k) s (ap (λ (x : ℕ). get_or (take m r) (i - x) None) (sym front) ∙ sym (get_or-append_right (take k l) (take m r) i None (omega (arith, front)))
+      ∙ sym (ap (λ (x : List (Option ℕ)). get_or x i None) both_are) ∙ e)
 
   pub both-marked : (K : Computation) (L R : List Structure) → length L ≡ k → Marked K L l → Marked K R r → Marked K (L ++ R) (paste l k r (16 - k))
-  both-marked K L R e a b = record {
-    each = λ i A f. by_mark i (λ m. Mark K m A) (λ g. a.each i A (sym (elem_left L R i (omega arith)) ∙ f))
-        (λ g. b.each (i - k) A (sym (elem_right L R (i - k)) ∙ ap (get_elem? (L ++ R)) (let q : length L + (i - k) ≡ i = omega arith in q) ∙ f)) (λ s z. absurd (omega (arith, z)));
-  }
+  both-marked K L R e a b = record { each = λ i A f s q. go i A f s q (dec_lt i k) }
+    where
+      go : (i : ℕ) (A : Structure) → get_elem? (L ++ R) i ≡ some A → (s : ℕ) → get_or (paste l k r (16 - k)) i None ≡ Some s → Dec (i < k) → OfOwnRows K s A
+      go i A f s q (yes g) = a.each i A (sym (elem_left L R i (omega arith)) ∙ f) s (mark_left i s g q)
+      go i A f s q (no g) =
+          let t : length L + (i - k) ≡ i = omega arith in
+          b.each (i - k) A (sym (elem_right L R (i - k)) ∙ ap (get_elem? (L ++ R)) t ∙ f) s (mark_right i s (omega arith) q)
 
   pub both-within : (n : ℕ) → Within n l → Within n r → Within n (paste l k r (16 - k))
-  both-within n a b i = by_mark i (λ m. m ≤ n) (λ g. a i) (λ g. b (i - k)) (omega arith)
+  both-within n a b i s e = go (dec_lt i k)
+    where
+      go : Dec (i < k) → s < n
+      go (yes g) = a i s (mark_left i s g e)
+      go (no g) = b (i - k) s (mark_right i s (omega arith) e)
 
 -- IN A WORKSPACE
 
@@ -111,6 +113,6 @@ elem_standing n counts (suc k) w b (suc i) h =
     ∙ ap₂ (λ (x y : List ℕ). some (structure_at n counts x y)) (drop-drop (i * cells n counts) (cells n counts) w ∙ ap (λ (m : ℕ). drop m w) p) (drop-drop (i * bar_cells n) (bar_cells n) b ∙ ap (λ (m : ℕ). drop m b) q)
 
 -- The mark of structure i of those that stand there.
-pub standing_mark : (K : Computation) (n : ℕ) (counts : List ℕ) (k : ℕ) (w b marks : List ℕ) → Marked K (standing n counts k w b) marks → (i : ℕ) → i < k
-    → Mark K (get_or marks i 0) (structure_at n counts (drop (i * cells n counts) w) (drop (i * bar_cells n) b))
+pub standing_mark : (K : Computation) (n : ℕ) (counts : List ℕ) (k : ℕ) (w b : List ℕ) (marks : List (Option ℕ)) → Marked K (standing n counts k w b) marks → (i : ℕ) → i < k
+    → Mark K (get_or marks i None) (structure_at n counts (drop (i * cells n counts) w) (drop (i * bar_cells n) b))
 standing_mark K n counts k w b marks a i h = a.each i _ (elem_standing n counts k w b i h)

@@ -44,7 +44,7 @@ get_d_some g (a ∷ l) (suc k) d z h = get_d_some g l k d z (omega arith)
 
 module _ (K : Computation) (shape : Shape) (starts : List ℕ) (laid : Laid K shape starts) where
   pub events-few : (j : ℕ) → count K j ≤ limits.events
-  events-few j = omega (arith, count-le K j, laid.counted, laid.shaped.few_events)
+  events-few j = omega (arith, count-le K j, laid.counted, shape.few_events)
 
   -- The starts as a structure: a row for each clock.
   abbrev S₀ : Structure
@@ -61,7 +61,7 @@ module _ (K : Computation) (shape : Shape) (starts : List ℕ) (laid : Laid K sh
   module _ (s : ℕ) (h : s < shape.n) where
     -- The events of all stations before s.
     pub offs_is : get_or shape.offs s 0 ≡ total (take s (full K))
-    offs_is = laid.shaped.offs_are s h ∙ ap (λ (c : List ℕ). total (take s c)) laid.counts_are
+    offs_is = shape.offs_are s h ∙ ap (λ (c : List ℕ). total (take s c)) laid.counts_are
 
     full_is : get_or shape.counts s 0 ≡ get_or (full K) s 0
     full_is = sym (get_or-take shape.n shape.counts s 0 h) ∙ ap (λ (l : List ℕ). get_or l s 0) laid.counts_are

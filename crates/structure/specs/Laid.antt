@@ -11,13 +11,12 @@ use Rattle.model.specs.Computation.{Computation, Event, Message, stations, count
 use Rattle.model.specs.Atom.{seen}
 use Rattle.lattice.proofs.Valid.{Valid}
 use Rattle.structure.specs.declared.Shape.{Shape}
+use Rattle.structure.specs.declared.Run.{Run}
 use Rattle.structure.specs.Layout.{stations_at}
-use Rattle.structure.specs.Shaped.{Shaped}
 
 -- The lawful computation K has the shape x, and starts are the empty cut and each event's clock, as the cells of a structure.
 pub record Laid (K : Computation) (x : Shape) (starts : List ℕ) : Type 0 where
   pub valid : Valid K
-  pub shaped : Shaped x
   pub stationed : stations K ≡ x.n
   pub counted : event_count K ≡ x.e
   pub counts_are : take x.n x.counts ≡ full K
@@ -59,6 +58,6 @@ pub record Facts (K : Computation) (x : Shape) (facts : List ℕ) : Type 0 where
   pub shown : (a : Aspect) (j k : ℕ) → j < x.n → k ≤ count K j → get_or facts (aspect_at a + (total (take j (full K)) + j + k)) 0 ≡ seen a (report K j k)
   pub filed : AllFiled K.messages facts
 
--- K is laid out, with what its atoms look at.
-abbrev pub Given : Computation → Shape → List ℕ → List ℕ → Type 0
-Given K x starts facts = Laid K x starts × Facts K x facts
+-- The run is K's: K is laid out in it, with what its atoms look at.
+abbrev pub Given : Computation → Run → Type 0
+Given K run = Laid K run.x run.starts.now × Facts K run.x run.facts.now

@@ -1,13 +1,7 @@
 -- i bars are passed, and those from bar i on are left.
-use Prim.Native.Nat.{◌≤◌, ◌-◌, ◌+◌, ◌*◌}
-use mathlib.Core.Path.{◌≡◌}
-use lib.ListN.{length, drop}
+use Rattle.std.proofs.Common.{◌≡◌, ◌+◌, ◌-◌, ◌*◌, length, drop}
 use Rattle.structure.specs.Layout.{bars_at}
 use Rattle.bars.proofs.count_bars.Given as goal
 
 abbrev pub invariant-loop-i : goal.invariant-loop-i
-invariant-loop-i l =
-    (l.i ≤ 16) × (length (bars_at l.n 16 (drop l.at l.bs)) ≡ l.i + length (bars_at l.n (16 - l.i) (drop (l.at + l.i * l.n) l.bs)))
-
-abbrev pub decreases-loop-i : goal.decreases-loop-i
-decreases-loop-i l = 16 - l.i
+invariant-loop-i l = length (bars_at l.n 16 (drop l.at l.bs)) ≡ l.i + length (bars_at l.n (16 - l.i) (drop (l.at + l.i * l.n) l.bs))

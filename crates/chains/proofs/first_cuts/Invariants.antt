@@ -1,7 +1,5 @@
 -- `chains::first_cuts` meets its contract: after i starts their cuts stand in the table.
-use mathlib.Core.Path.{◌≡◌}
-use Prim.Native.Nat.{◌+◌, ◌-◌, ◌≤◌}
-use lib.ListN.{length}
+use Rattle.std.proofs.Common.{◌≡◌, length}
 use Rattle.model.specs.Computation.{Computation}
 use Rattle.model.specs.Structure.{Structure, row}
 use Rattle.lattice.specs.Chains.{outcome_of_first_round}
@@ -10,8 +8,7 @@ use Rattle.chains.proofs.Finding.{Done}
 use Rattle.chains.proofs.first_cuts.Given as goal
 
 abbrev pub invariant-loop-i : goal.invariant-loop-i
-invariant-loop-i l =
-    (l.i ≤ l.e + 1) × (length l.cuts ≡ 2048) × ((K : Computation) (S T : Structure) → Small K → Slots K (row S) l.left → Slots K (row T) l.right → Done K (λ j k. outcome_of_first_round T l.s j k (row S j k)) l.cuts l.i)
-
-abbrev pub decreases-loop-i : goal.decreases-loop-i
-decreases-loop-i l = l.e + 1 - l.i
+invariant-loop-i l = record {
+  size : length l.cuts ≡ 2048;
+  done : (K : Computation) (S T : Structure) → Small K → Slots K (row S) l.left → Slots K (row T) l.right → Done K (λ j k. outcome_of_first_round T l.s j k (row S j k)) l.cuts l.i;
+}

@@ -1,17 +1,29 @@
 -- `lookups::look_up` meets its contract: the first cell of the row tells the outcome.
+use Rattle.std.proofs.Common.{◌≡◌, ◌<◌, ◌*◌, rules, ap, sym, subst, ◌∙◌, arith, List, ℕ, get_or, Some}
+use Rattle.model.specs.Computation.{clock}
+use Rattle.model.specs.Basis.{start}
+use Rattle.picking.specs.Rows.{row_of}
+use Rattle.picking.proofs.Reading.{row_first}
+use Rattle.slots.specs.Reached.{Reached}
 use Rattle.lookups.proofs.AtRow as laws
 use Rattle.lookups.proofs.look_up.Goals as goal
 
-pub returns-then-says_none : goal.returns-then-says_none
-returns-then-says_none c =
+pub returns-then-cut-clause-looked : goal.returns-then-cut-clause-looked
+returns-then-cut-clause-looked c = λ K S T j k h.
     let a = c.args in
     let r = c.lost_rounds in
-    let e = c.says_none.ensures.0 c.if-says_none.true in
-    record { looked = λ K S T j k h. laws.looked-lost K S T a.s a.out.now a.last.now a.cuts.now a.first.now a.marks.now a.i j k h c.requires.2 c.requires.5 c.requires.6 r.result (r.ensures.value K S T j k a.out.now a.last.now a.first.now h e) e; few_rounds = r.ensures.few_rounds }
+    let e : get_or a.t.now.out.now (a.i * 8) 0 ≡ 255 = sym (row_first a.t.now.out.now a.i) ∙ ap (λ (l : List ℕ). get_or l 0 0) (sym c.row_at-cut.ensures) ∙ c.if-cut.true in
+    laws.looked-lost K S T a.s _ _ _ _ _ _ a.i j k h a.t.now.long.0 c.requires.0 c.requires.1 r.result (r.ensures.value K S T j k h e) e
 
-pub returns : goal.returns
-returns c =
+pub returns-clause-looked : goal.returns-clause-looked
+returns-clause-looked c = λ K S T j k h.
     let a = c.args in
     let r = c.raised_rounds in
-    let e = c.says_none.ensures.1 c.if-says_none.false in
-    record { looked = λ K S T j k h. laws.looked_raised K S T a.s a.out.now a.last.now a.cuts.now a.first.now a.marks.now a.i j k h c.requires.2 c.requires.5 c.requires.6 r.result (r.ensures.value K S T j k h e) e; few_rounds = r.ensures.few_rounds }
+    let cut : List ℕ = c.row_at-cut.result.now in
+    let there : get_or cut 0 0 < 255 = (let z : get_or cut 0 0 < 256 = search rules in omega (arith, z, c.if-cut.false)) in
+    let e : cut ≡ row_of a.t.now.out.now a.i = c.row_at-cut.ensures in
+    record {
+      rounds = r.ensures.value K S T j k h there;
+      reached = subst (λ (l : List ℕ). Reached K (Some l) (start K S T (clock K j k)).reached) (sym e)
+          (laws.raised-reached K S T a.s _ _ _ _ _ _ a.i j k h a.t.now.long.0 c.requires.0 c.requires.1 r.result (r.ensures.value K S T j k h there) (rw (← row_first a.t.now.out.now a.i, ← e) there));
+    }

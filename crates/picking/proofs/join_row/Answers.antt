@@ -1,13 +1,12 @@
 -- `picking::join_row` meets its contract.
-use mathlib.Core.Path.{ap, ◌∙◌}
-use Prim.Native.Nat.{ℕ, ◌*◌}
-use mathlib.Core.List.{List}
-use lib.Seq.{paste}
-use Rattle.picking.proofs.Reading.{joined-rows}
+use Rattle.std.proofs.Common.{◌≡◌, ◌∙◌, ap, arith, List, ℕ}
+use Rattle.model.specs.Cut.{join}
+use Rattle.picking.specs.Rows.{row_of}
+use Rattle.picking.proofs.Reading.{row_copied}
 use Rattle.picking.proofs.join_row.Goals as goal
 
 pub returns : goal.returns
 returns c =
     let a = c.args in
-    c.copy.ensures ∙ ap (λ (l : List ℕ). paste a.out.now (a.i * 8) l 8)
-    (joined-rows a.a.now a.b.now a.i a.k c.join_eight.new.acc c.join_eight-2.new.acc c.requires.1 c.requires.3 c.join_eight.ensures c.join_eight-2.ensures)
+    let e : c.copy.new.ws ≡ row_of a.a.now a.i = row_copied a.a.now a.out.now c.copy.new.ws a.i (omega arith) c.copy.ensures in
+    c.join_eight.ensures ∙ ap (λ (l : List ℕ). join l (row_of a.b.now a.k)) e

@@ -1,31 +1,33 @@
 -- `round::next_round` meets its contract.
-use mathlib.Core.Path.{◌≡◌}
-use mathlib.Core.Option.{some}
+use Rattle.std.proofs.Common.{rules}
+use Rattle.std.proofs.Math.Option.{some}
 use Rattle.model.specs.Structure.{raise}
 use Rattle.model.specs.Basis.{then_right}
+use Rattle.slots.specs.Slots.{Says}
 use Rattle.lattice.proofs.Tests.{clash}
 use Rattle.round.proofs.Reading as laws
+use Rattle.round.proofs.Reading.{Tells}
 use Rattle.round.proofs.next_round.Goals as goal
+
+pub returns-in_err-middle : goal.returns-in_err-middle
+unfolding then_right
+returns-in_err-middle c K S T x b h v =
+    let e = rw c.in_err-middle.was at (c.raise.ensures K S (some x) b.small b.slots_left h) in
+    rw c.from_residual.ensures (laws.next_lost K S T x c.args.left.now c.args.right.now c.args.cut.now b h v e)
 
 pub returns-then-same : goal.returns-then-same
 unfolding then_right
-returns-then-same c =
-    let a = c.args in
-    let r = c.raise in
-    record { answers = λ K S T x b h v. laws.next_same K S T x a.left.now a.right.now a.cut.now r.new.out b h v (r.ensures.says K S (some x) b.small b.slots_left h) (c.same.ensures.0 c.if-same.true) c.requires.2; cut_len = r.ensures.out_len.0 }
+returns-then-same c K S T x b h v =
+    let m = rw c.in_ok-middle.was at (c.raise.ensures K S (some x) b.small b.slots_left h) in
+    let t = c.same.ensures in
+    laws.next_same K S T x c.args.left.now c.args.right.now c.args.cut.now b h v m.0 m.1 c.in_ok-middle.middle m.2 (t.0 c.if-same.true)
 
 pub returns : goal.returns
 unfolding then_right
-returns c =
+returns c K S T x b h v =
     let a = c.args in
-    let r = c.raise in
-    let x = r.new.out in
-    let q = c.right_half in
-    let f : x ≡ a.cut.now → ⊥ = λ e. clash (c.same.ensures.1 e) c.if-same.false in
-    record {
-      answers = λ K S T y b h v.
-          let w = r.ensures.says K S (some y) b.small b.slots_left h in
-          laws.next-half K S T y a.left.now a.right.now a.cut.now x b h v w f r.ensures.out_len.0 c.requires.2 q.result
-          (q.ensures.answers K T y (raise S y) b.small b.good_right b.slots_right h w (laws.left-above K S T y a.left.now a.right.now a.cut.now x b h v w));
-      cut_len = q.ensures.cut_len;
-    }
+    let m = rw c.in_ok-middle.was at (c.raise.ensures K S (some x) b.small b.slots_left h) in
+    let t = c.same.ensures in
+    let w : Says K (raise S x) c.in_ok-middle.middle = rw m.1 m.2 in
+    laws.answers_same K T _ _ c.right_half.result (laws.next_half K S T x a.left.now a.right.now a.cut.now b h v m.0 m.1 c.in_ok-middle.middle m.2 (λ e. clash (t.1 e) c.if-same.false) (search rules) (search rules))
+    (c.right_half.ensures K T x (raise S x) b.small b.good_right b.slots_right h w (laws.left-above K S T x a.left.now a.right.now a.cut.now b h v))

@@ -1,13 +1,11 @@
 -- `rounds::intersect` meets its contract: after i starts their rows stand, and their rounds are counted.
-use mathlib.Core.Path.{◌≡◌}
-use Prim.Native.Nat.{◌+◌, ◌-◌}
-use lib.ListN.{length}
+use Rattle.std.proofs.Common.{◌≡◌, ◌+◌, length}
 use Rattle.rounds.specs.Pair.{Known}
 use Rattle.slots.proofs.Turned as laws
 use Rattle.rounds.proofs.intersect.Given as goal
 
 abbrev pub invariant-loop-i : goal.invariant-loop-i
-invariant-loop-i l = (length l.ws ≡ length l.initial.ws) × laws.Turned l.n l.e (l.e + 2) (λ K S T. Known K S T l.n l.e l.left l.right l.first l.code) l.i l.ws l.rounds
-
-abbrev pub decreases-loop-i : goal.decreases-loop-i
-decreases-loop-i l = l.e + 1 - l.i
+invariant-loop-i l = record {
+  room : length l.ws ≡ length l.initial.ws;
+  turned : laws.Turned l.n l.e (l.e + 2) (λ K S T. Known K S T l.n l.e l.left l.right l.first l.code) l.i l.ws l.rounds;
+}

@@ -1,7 +1,5 @@
 -- `start::more_rounds` meets its contract: what the rounds so far and what is left to run make together is the start's outcome.
-use mathlib.Core.Path.{◌≡◌}
-use Prim.Native.Nat.{suc, ◌+◌, ◌-◌, ◌≤◌}
-use lib.ListN.{length}
+use Rattle.std.proofs.Common.{◌≡◌, suc, ◌-◌}
 use Rattle.model.specs.Cut.{Cut}
 use Rattle.model.specs.Computation.{Computation}
 use Rattle.model.specs.Structure.{Structure}
@@ -14,8 +12,5 @@ use Rattle.start.proofs.more_rounds.Given as goal
 
 abbrev pub invariant-loop-rounds : goal.invariant-loop-rounds
 invariant-loop-rounds l =
-    (l.rounds ≤ l.e + 1) × (l.most ≡ l.e) × (length l.cut ≡ 8) × ((K : Computation) (S T : Structure) (x₀ : Cut) → Both K S T l.left l.right → Coded K x₀ l.initial.cut → In K T x₀
-    → (x : Cut) × Coded K x l.cut × In K T x × (later (quick_on S T l.e x₀) ≡ turns.plus l.rounds (quick_on S T (suc l.e - l.rounds) x)))
-
-abbrev pub decreases-loop-rounds : goal.decreases-loop-rounds
-decreases-loop-rounds l = l.e + 1 - l.rounds
+    (K : Computation) (S T : Structure) (x₀ : Cut) → Both K S T l.left l.right → Coded K x₀ l.initial.cut → In K T x₀
+    → (x : Cut) × Coded K x l.cut × In K T x × (later (quick_on S T l.e x₀) ≡ turns.plus l.rounds (quick_on S T (suc l.e - l.rounds) x))

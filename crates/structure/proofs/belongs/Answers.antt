@@ -1,28 +1,17 @@
--- `structure::belongs` meets its contract: raised to itself, and contained in no bar.
-use lib.ListN.{take, drop}
-use Rattle.model.specs.Structure.{Structure}
-use Rattle.structure.specs.Layout.{structure_at}
-use Rattle.structure.proofs.Bars as bars
+-- A cut belongs where it is raised to itself, and contained in no bar.
+use lib.ListN.{take}
+use Rattle.structure.proofs.Bars.{none_outside, raised_outside, raised_inside}
 use Rattle.structure.proofs.belongs.Goals as goal
 
 pub returns-then-raised : goal.returns-then-raised
-returns-then-raised c =
-    let a = c.args in
-    let S : Structure = structure_at a.x.n (take a.x.n a.x.counts) (drop a.at a.ws.now) (drop a.bar a.bs.now) in
-    bars.none_outside a.x.n S (take a.x.n a.cut.now) c.raise.new.out c.requires.shaped.some_station (c.raise.ensures (drop a.bar a.bs.now)) c.if-raised.true
+returns-then-raised c = none_outside c.args.x.n _ (take c.args.x.n c.args.cut.now) c.raise-raised.result c.args.x.some_station (c.raise-raised.ensures c.args.bars.now) c.if-raised.true
 
-pub returns-then-not-contained : goal.returns-then-not-contained
-returns-then-not-contained c =
-    let a = c.args in
-    let S : Structure = structure_at a.x.n (take a.x.n a.x.counts) (drop a.at a.ws.now) (drop a.bar a.bs.now) in
-    let r = c.raise in
-    bars.raised_outside a.x.n S (take a.x.n a.cut.now) r.new.out c.requires.shaped.some_station (r.ensures (drop a.bar a.bs.now)) c.if-raised.false
-    c.contained.result c.contained.ensures c.if-not-contained.true
+pub returns-then-contained : goal.returns-then-contained
+returns-then-contained c =
+    let r = c.raise-raised in
+    raised_inside c.args.x.n _ (take c.args.x.n c.args.cut.now) r.result c.args.x.some_station (r.ensures c.args.bars.now) c.if-raised.false _ c.contained.ensures c.if-contained.true _ c.barred.ensures
 
-pub returns : goal.returns
-returns c =
-    let a = c.args in
-    let S : Structure = structure_at a.x.n (take a.x.n a.x.counts) (drop a.at a.ws.now) (drop a.bar a.bs.now) in
-    let r = c.raise in
-    bars.raised_inside a.x.n S (take a.x.n a.cut.now) r.new.out c.requires.shaped.some_station (r.ensures (drop a.bar a.bs.now)) c.if-raised.false
-    c.contained.result c.contained.ensures c.if-not-contained.false c.barred.result c.barred.ensures
+pub returns-else-contained : goal.returns-else-contained
+returns-else-contained c =
+    let r = c.raise-raised in
+    raised_outside c.args.x.n _ (take c.args.x.n c.args.cut.now) r.result c.args.x.some_station (r.ensures c.args.bars.now) c.if-raised.false _ c.contained.ensures c.if-contained.false

@@ -1,50 +1,32 @@
 use mathlib.Core.Path.{◌≡◌}
-use Prim.Native.Nat.{◌+◌, ◌*◌, ◌≤◌}
+use Prim.Native.Nat.{◌+◌, ◌*◌}
 use native.Mathlib.Omega.{arith}
-use lib.ListN.{length, get_or}
-use Rattle.structure.proofs.Raising.{shape_room}
+use lib.ListN.{get_or}
 use Rattle.tops.proofs.LastRows as last
-use borrow.Author.Rules.{rules}
 use Rattle.tops.proofs.last_row.Goals as goal
-use Rattle.tops.proofs.last_row.Goals.{In-loop-k}
-
--- The row that a turn looks at lies in the workspace.
-room : (c : In-loop-k) → c.args.at + (c.wide-before.result + c.loop-k.k) * c.args.x.n + c.args.x.n ≤ length c.args.ws.now
-room c =
-    let a = c.args in
-    last.row_room a.x c.requires.shaped a.ws.now a.at c.requires.j_lt_n.1 a.j c.wide-before.result c.wide-k.result c.requires.j_lt_n.0 (search rules) (search rules) c.loop-k.k c.loop-k.invariant.0
 
 pub loop-k-init : goal.loop-k-init
-loop-k-init c = (omega arith, λ i p q. absurd (omega arith))
-
-pub overflow_mul-p : goal.overflow_mul-p
-overflow_mul-p c = omega (arith, room c)
-
-pub overflow_add-p-in-loop-k : goal.overflow_add-p-in-loop-k
-overflow_add-p-in-loop-k c = omega (arith, room c)
+loop-k-init c = λ i p q. absurd (omega arith)
 
 pub bounds-ws-p : goal.bounds-ws-p
-bounds-ws-p c = omega (arith, room (goal.at.bounds-ws-p c).In-loop-k)
+bounds-ws-p c =
+    let room = last.row_room c.args.x c.args.ws.now c.requires.1 c.args.j c.from-before.result c.from-k.result c.requires.0 c.from-before.ensures c.from-k.ensures c.loop-k.k c.loop-k.auto.k in
+    omega (arith, room, c.args.x.some_station)
 
 pub returns-then-ws-p : goal.returns-then-ws-p
 returns-then-ws-p c =
-    let a = c.args in
-    let l = c.loop-k in (
-      room (goal.at.returns-then-ws-p c).In-loop-k,
-      last.last_there a.x c.requires.shaped a.ws.now a.at c.requires.j_lt_n.1 a.j c.wide-before.result c.wide-k.result c.requires.j_lt_n.0 (search rules) (search rules) l.k l.invariant.0 l.invariant.1 (omega arith) c.if-ws-p.true,
+    let a = c.args in (
+      last.row_room a.x a.ws.now c.requires.1 a.j c.from-before.result c.from-k.result c.requires.0 c.from-before.ensures c.from-k.ensures c.loop-k.k c.loop-k.auto.k,
+      last.last_there a.x a.ws.now c.requires.1 a.j c.from-before.result c.from-k.result c.requires.0 c.from-before.ensures c.from-k.ensures c.loop-k.k c.loop-k.auto.k c.loop-k.invariant (omega arith) c.if-ws-p.true,
     )
 
 pub loop-k-preserved : goal.loop-k-preserved
 loop-k-preserved c =
-    let a = c.args in
-    let b = c.wide-before.result in
-    let l = c.loop-k in
-    (omega arith, last.one-before (λ i. get_or a.ws.now (a.at + (b + i) * a.x.n) 0 ≡ 255) l.k c.wide-k.result l.invariant.1 c.if-ws-p.false)
+    last.one-before (λ i. get_or c.args.ws.now ((c.from-before.result + i) * c.args.x.n) 0 ≡ 255) c.loop-k.k c.from-k.result c.loop-k.invariant c.if-ws-p.false
 
 pub returns : goal.returns
 returns c =
-    let a = c.args in
-    let l = c.loop-k in (
-      omega (arith, shape_room a.x c.requires.shaped a.at (length a.ws.now) c.requires.j_lt_n.1),
-      last.last_least a.x c.requires.shaped a.ws.now a.at c.requires.j_lt_n.1 a.j c.wide-before.result c.wide-k.result c.requires.j_lt_n.0 (search rules) (search rules) l.k l.invariant.0 l.invariant.1 (omega arith),
+    let a = c.args in (
+      omega (arith, last.within a.x a.ws.now c.requires.1),
+      last.last_least a.x a.ws.now c.requires.1 a.j c.from-before.result c.from-k.result c.requires.0 c.from-before.ensures c.from-k.ensures c.loop-k.k c.loop-k.auto.k c.loop-k.invariant (omega arith),
     )

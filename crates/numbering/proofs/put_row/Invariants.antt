@@ -1,0 +1,10 @@
+-- `numbering::put_row` meets its contract: after i cells each is numbered.
+use Rattle.std.proofs.Common.{◌≡◌, ℕ, ◌<◌, length, get_or}
+use Rattle.numbering.specs.Rows.{numbered}
+use Rattle.numbering.proofs.put_row.Given as goal
+
+abbrev pub invariant-loop-i : goal.invariant-loop-i
+invariant-loop-i l = record {
+  eight : length l.t ≡ 8;
+  done : (k : ℕ) → k < l.i → get_or l.t k 0 ≡ numbered (get_or l.code.room k 0) (get_or l.code.before k 0) (get_or l.row k 0);
+}
