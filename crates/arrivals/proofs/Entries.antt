@@ -104,13 +104,13 @@ module _ (K : Computation) (x : Shape) (starts : List ℕ) (laid : Laid K x star
       gathered_due : AllDue K i j t₁
       gathered_due c h =
           gathered c (omega (arith, sent_up_to))
-          ∙ highest-due i j (omega (arith, laid.shaped.few_stations)) (small facts f) t marks c (omega (arith, events-few K x starts laid i))
+          ∙ highest-due i j (omega (arith, x.few_stations)) (small facts f) t marks c (omega (arith, events-few K x starts laid i))
 
       pub gathered_known : (c : ℕ) → c ≤ m → Known x.n i off starts t₁ c
       gathered_known c h = due-known t₁ c (gathered_due c (omega (arith, sent_up_to)))
 
       received : (m : Message) → (m.receiver < 256) × GoodMessage K m → pair_of m.sender m.receiver ≡ pair_of i j → m.received ≤ count K j
-      received m g e = let r : m.receiver ≡ j = omega (arith, laid.shaped.few_stations) in rw r at g.1.received
+      received m g e = let r : m.receiver ≡ j = omega (arith, x.few_stations) in rw r at g.1.received
 
       mark_reach : (c : ℕ) → c < 256 → (get_or t c 0 ≡ 255 → ⊥) → get_or t c 0 ≤ count K j
       mark_reach c h z =

@@ -54,9 +54,6 @@ module _ (l : List Message) (facts : List ℕ) (listed : AllFiled l facts) (q : 
   filed : Filed m facts at
   filed = listed.each q m (elem_there l q h).1
 
-  pub place-fits : at + 2 < length facts
-  place-fits = omega (arith, listed.fit, listed.few)
-
   pub sent_low : get_or facts (at + 1) 0 < 256
   sent_low = omega (arith, filed.sent, filed.sent_low)
 

@@ -1,6 +1,6 @@
 -- A turn of the passes over the table: upwards, where entries become the largest so far, and down again, where they are settled.
-use mathlib.Core.Path.{◌≡◌, refl, sym, ap, ap₂, ◌∙◌}
-use Prim.Native.Nat.{ℕ, zero, suc, ◌+◌, ◌*◌, ◌≤◌, ◌<◌, max}
+use mathlib.Core.Path.{◌≡◌, refl, ap, ap₂, ◌∙◌}
+use Prim.Native.Nat.{ℕ, zero, suc, ◌+◌, ◌≤◌, ◌<◌, max}
 use native.Mathlib.Omega.{arith}
 use native.Mathlib.Numerals.{add-one}
 use mathlib.Core.Bool.{Bool, true, false, cond}
@@ -8,8 +8,7 @@ use mathlib.Core.List.{List}
 use lib.Dec.{eqb, ltb}
 use lib.ListN.{length, get_or, set}
 use lib.Seq.{get_or-set_same, get_or-set_other}
-use borrow.Author.Tests.{eqb-true, eqb-false, eq-eqb, ne_eqb, ltb-true, lt-ltb, le-ltb}
-use Rattle.structure.specs.Layout.{event_row}
+use borrow.Author.Tests.{eqb-true, eqb-false, ltb-true}
 use Rattle.arrivals.specs.Table.{highest, brought, onward, settled, Known}
 
 -- UPWARDS
@@ -39,24 +38,6 @@ module _ (t₀ t : List ℕ) (x v : ℕ) (n : length t ≡ 256) (h : x + 1 < 256
 -- DOWN AGAIN
 
 module _ (n i off : ℕ) (starts t : List ℕ) (x : ℕ) where
-  -- The three cases of an entry.
-  pub settled-none : (k : ℕ) → k ≡ 255 → 255 ≡ settled n i off starts t x k
-  unfolding settled
-  settled-none k e = rw (eq-eqb k 255 e)
-
-  module _ (k r y : ℕ) (f : k ≡ 255 → ⊥) (e : r ≡ event_row off k) (b : y ≡ get_or starts (r * n + i) 0) where
-    there : settled n i off starts t x k ≡ onward t x k y
-    unfolding settled brought
-    there = rw (ne_eqb k 255 f, b, e)
-
-    pub settled_on : x < y → get_or t y 0 ≡ settled n i off starts t x k
-    unfolding onward
-    settled_on h = sym (there ∙ rw (lt-ltb x y h))
-
-    pub settled_now : y ≤ x → k ≡ settled n i off starts t x k
-    unfolding onward
-    settled_now h = sym (there ∙ rw (le-ltb x y h))
-
   -- An entry looks only at those above it.
   settled_same : (v y k : ℕ) → x ≤ y → settled n i off starts t y k ≡ settled n i off starts (set t x v) y k
   unfolding settled onward

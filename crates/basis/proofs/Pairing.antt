@@ -21,8 +21,9 @@ use Rattle.model.specs.Basis.{basis}
 use Rattle.model.specs.Rounds.{rounds}
 use Rattle.structure.specs.Layout.{structure_at, standing, bars_at, cells, bar_cells}
 use Rattle.structure.specs.declared.Shape.{Shape}
+use Rattle.structure.specs.declared.Run.{Run}
 use Rattle.structure.specs.declared.Sets.{Sets}
-use Rattle.structure.specs.Marks.{Marked}
+use Rattle.structure.specs.Marks.{Marked, Within}
 use Rattle.structure.specs.Laid.{Laid, Given}
 use Rattle.lattice.proofs.Signed as signed
 use Rattle.lattice.specs.Signed.{normal, two, joined_form}
@@ -58,14 +59,24 @@ pub record Left (n e c u v l mw mb : ℕ) : Type 0 where
   pub few : c ≤ 16
   pub short : u ≤ 192
   pub small : v ≤ rounds_most
-  pub within : u + 1 ≤ l
+  pub within : u ≤ l
   pub cells_fit : c * ((e + 1) * n) ≤ mw
   pub bars_fit : c * (16 * n) ≤ mb
   pub bars-small : c * (16 * n) ≤ 2048
 
-module _ (s b : Bool) (shape : Shape) (q q' starts values : List ℕ) (w₀ b₀ : List ℕ)
-    (r : Ready s shape q starts values (length w₀) (length b₀)) (k : get_or q 0 0 ≡ two_token b) (d : q' ≡ drop 1 q)
-    (sets : Sets) (u v : ℕ) (w bs : List ℕ) (lw : length w ≡ length w₀) (lb : length bs ≡ length b₀) (m : Made s shape q' starts values sets u v w bs) where
+-- Once the second operand stands behind the first, both can be joined.
+pub record Second (shape : Shape) (l r : Sets) (u v : ℕ) (w b : List ℕ) (pair : Bool) : Type 0 where
+  pub few : r.count ≤ 16
+  pub short : u ≤ 192
+  pub small : v ≤ rounds_most
+  pub present : Present ((shape.e + 1) * shape.n) (l.count + r.count) w
+  pub within_left : Within shape.n l.stations
+  pub within_right : Within shape.n r.stations
+  pub ready : pair ≡ true → PairsReady shape l r w b
+
+module _ {s : Bool} (b : Bool) {run : Run} {q q' : List ℕ} {mw mb : ℕ}
+    (r : Ready s run q mw mb) (k : get_or q 0 0 ≡ two_token b) (d : q' ≡ drop 1 q)
+    {sets : Sets} {u v : ℕ} {w bs : List ℕ} (lw : length w ≡ mw) (lb : length bs ≡ mb) (m : Made s run q' sets u v w bs) where
   abbrev c : ℕ
   c = sets.count
 
@@ -76,10 +87,10 @@ module _ (s b : Bool) (shape : Shape) (q q' starts values : List ℕ) (w₀ b₀
   f₂ = (tokens.behind-two q r.formula r.rest r.reads b k).1
 
   abbrev size : ℕ
-  size = (shape.e + 1) * shape.n
+  size = (run.x.e + 1) * run.x.n
 
   abbrev slot : ℕ
-  slot = 16 * shape.n
+  slot = 16 * run.x.n
 
   is-two : r.formula ≡ two b f₁ f₂
   unfolding f₁ f₂
@@ -97,7 +108,7 @@ module _ (s b : Bool) (shape : Shape) (q q' starts values : List ℕ) (w₀ b₀
 
   left_done : Done c u v (normal s f₁) (length q')
   left_done =
-      done_at s shape q' starts values sets u v w bs m r.computation r.laid f₁ (prefix f₂ ++ r.rest) (d ∙ reads_two) slims.0
+      done_at m r.computation r.laid f₁ (prefix f₂ ++ r.rest) (d ∙ reads_two) slims.0
       (omega (arith, r.short, ap tokens is-two, signed.weigh-two 1 1 1 b f₁ f₂))
 
   sum-held : c + held (normal s f₂) ≤ held (normal s r.formula)
@@ -110,32 +121,35 @@ module _ (s b : Bool) (shape : Shape) (q q' starts values : List ℕ) (w₀ b₀
   bars-two : c * slot + held (normal s f₂) * slot ≤ length bs
   bars-two = omega (arith, mul-le-mul_right slot sum-held, add-mul c (held (normal s f₂)) slot, r.bars_fit, lb)
 
-  pub left : Left shape.n shape.e c u v (length q) (length w) (length bs)
+  pub left : Left run.x.n run.x.e c u v (length q') (length w) (length bs)
   left = record {
     few = left_done.few;
     short = left_done.short;
     small = left_done.small;
-    within = omega (arith, left_done.within, ap length d, length-drop 1 q, question-some s shape q starts values (length w₀) (length b₀) r);
+    within = left_done.within;
     cells_fit = omega (arith, cells-two);
     bars_fit = omega (arith, bars-two);
-    bars-small = mul-le-mul {n₁ = c} {m₁ = 16 * shape.n} {n₂ = 16} {m₂ = 128} left_done.few (omega (arith, r.laid.0.shaped.few_stations));
+    bars-small = mul-le-mul {n₁ = c} {m₁ = 16 * run.x.n} {n₂ = 16} {m₂ = 128} left_done.few (omega (arith, run.x.few_stations));
   }
 
-  used-is : u ≡ length (prefix f₁)
-  used-is = m.passed f₁ (prefix f₂ ++ r.rest) (d ∙ reads_two)
-
-  module _ (q₂ : List ℕ) (d₂ : q₂ ≡ drop (u + 1) q) where
+  module _ {q₂ : List ℕ} (d₂ : q₂ ≡ drop u q') where
     pub right_shorter : length q₂ < length q
-    right_shorter = omega (arith, ap length d₂, length-drop (u + 1) q, question-some s shape q starts values (length w₀) (length b₀) r)
+    right_shorter = omega (arith, ap length d, ap length d₂, length-drop u q', length-drop 1 q, question-some r)
 
-    pub right_ready : Ready s shape q₂ starts values (length (take (length w - c * size) (drop (c * size) w))) (length (take (length bs - c * slot) (drop (c * slot) bs)))
+    -- The second operand is what stands behind the first.
+    second_reads : (f g : Formula) (rest : List ℕ) → drop 1 q ≡ prefix f ++ (prefix g ++ rest) → q₂ ≡ prefix g ++ rest
+    second_reads f g rest e =
+        let h : q' ≡ prefix f ++ (prefix g ++ rest) = d ∙ e in
+        d₂ ∙ ap (drop u) h ∙ drop_at (prefix f) (prefix g ++ rest) u (sym (m.passed f (prefix g ++ rest) h))
+
+    pub right_ready : Ready s run q₂ (length (take (length w - c * size) (drop (c * size) w))) (length (take (length bs - c * slot) (drop (c * slot) bs)))
     right_ready = record {
       computation = r.computation;
       laid = r.laid;
       formula = f₂;
       rest = r.rest;
-      reads = d₂ ∙ tokens.second q u (prefix f₁) (prefix f₂ ++ r.rest) reads_two used-is;
-      known = ((and-true (sound shape.n f₁) (sound shape.n f₂)).0 (sym (ap (sound shape.n) is-two ∙ signed.sound-two shape.n b f₁ f₂) ∙ r.known)).1;
+      reads = second_reads f₁ f₂ r.rest reads_two;
+      known = ((and-true (sound run.x.n f₁) (sound run.x.n f₂)).0 (sym (ap (sound run.x.n) is-two ∙ signed.sound-two run.x.n b f₁ f₂) ∙ r.known)).1;
       slim = slims.1;
       works = ((and-true (workable (normal s f₁)) (workable (normal s f₂))).0 (sym (ap (λ (f : Formula). workable (normal s f)) is-two ∙ signed.workable-two s b f₁ f₂) ∙ r.works)).1;
       short = omega (arith, r.short, ap tokens is-two, signed.weigh-two 1 1 1 b f₁ f₂);
@@ -143,7 +157,7 @@ module _ (s b : Bool) (shape : Shape) (q q' starts values : List ℕ) (w₀ b₀
       bars_fit = part_room (c * slot) (held (normal s f₂) * slot) bs bars-two;
     }
 
-    module _ (sets₂ : Sets) (u₂ v₂ : ℕ) (p pb : List ℕ) (m₂ : Made s shape q₂ starts values sets₂ u₂ v₂ p pb)
+    module _ {sets₂ : Sets} {u₂ v₂ : ℕ} {p pb : List ℕ} (m₂ : Made s run q₂ sets₂ u₂ v₂ p pb)
         (lp : length p ≡ length (take (length w - c * size) (drop (c * size) w))) (lpb : length pb ≡ length (take (length bs - c * slot) (drop (c * slot) bs))) where
       abbrev c₂ : ℕ
       c₂ = sets₂.count
@@ -156,11 +170,8 @@ module _ (s b : Bool) (shape : Shape) (q q' starts values : List ℕ) (w₀ b₀
 
       right_done : Done c₂ u₂ v₂ (normal s f₂) (length q₂)
       right_done =
-          done_at s shape q₂ starts values sets₂ u₂ v₂ p pb m₂ r.computation r.laid f₂ r.rest (d₂ ∙ tokens.second q u (prefix f₁) (prefix f₂ ++ r.rest) reads_two used-is) slims.1
+          done_at m₂ r.computation r.laid f₂ r.rest (second_reads f₁ f₂ r.rest reads_two) slims.1
           (omega (arith, r.short, ap tokens is-two, signed.weigh-two 1 1 1 b f₁ f₂))
-
-      pub right-few : (c₂ ≤ 16) × (u₂ ≤ 192) × (v₂ ≤ rounds_most)
-      right-few = (right_done.few, right_done.short, right_done.small)
 
       w_is : w₃ ≡ take (c * size) w ++ p
       w_is = put_end (c * size) w p left.cells_fit
@@ -174,25 +185,25 @@ module _ (s b : Bool) (shape : Shape) (q q' starts values : List ℕ) (w₀ b₀
       lb₁ : length (take (c * slot) bs) ≡ c * slot
       lb₁ = length-take-le (c * slot) bs left.bars_fit
 
-      module _ (K : Computation) (laid : Laid K shape starts) where
-        cells_is : suc (total (full K)) * shape.n ≡ size
-        cells_is = cells_are shape.n shape.e (full K) laid.counted
+      module _ (K : Computation) (laid : Laid K run.x run.starts.now) where
+        cells_is : suc (total (full K)) * run.x.n ≡ size
+        cells_is = cells_are run.x.n run.x.e (full K) laid.counted
 
-        left-stands : standing shape.n (full K) c w₃ b₃ ≡ standing shape.n (full K) c w bs
+        left-stands : standing run.x.n (full K) c w₃ b₃ ≡ standing run.x.n (full K) c w bs
         left-stands =
-            let x : take (c * cells shape.n (full K)) w₃ ≡ take (c * cells shape.n (full K)) w =
+            let x : take (c * cells run.x.n (full K)) w₃ ≡ take (c * cells run.x.n (full K)) w =
             ap (λ (y : ℕ). take (c * y) w₃) cells_is ∙ ap (take (c * size)) w_is ∙ take_at (take (c * size) w) p (c * size) lw₁ ∙ ap (λ (y : ℕ). take (c * y) w) (sym cells_is) in
-            standing_same shape.n (full K) c w₃ w b₃ bs laid.shaped.some_station x (ap (take (c * slot)) b_is ∙ take_at (take (c * slot) bs) pb (c * slot) lb₁)
+            standing_same run.x.n (full K) c w₃ w b₃ bs run.x.some_station x (ap (take (c * slot)) b_is ∙ take_at (take (c * slot) bs) pb (c * slot) lb₁)
 
-        right-stands : standing shape.n (full K) c₂ (drop (c * size) w₃) (drop (c * slot) b₃) ≡ standing shape.n (full K) c₂ p pb
+        right-stands : standing run.x.n (full K) c₂ (drop (c * size) w₃) (drop (c * slot) b₃) ≡ standing run.x.n (full K) c₂ p pb
         right-stands =
-            ap₂ (standing shape.n (full K) c₂) (ap (drop (c * size)) w_is ∙ drop_at (take (c * size) w) p (c * size) lw₁) (ap (drop (c * slot)) b_is ∙ drop_at (take (c * slot) bs) pb (c * slot) lb₁)
+            ap₂ (standing run.x.n (full K) c₂) (ap (drop (c * size)) w_is ∙ drop_at (take (c * size) w) p (c * size) lw₁) (ap (drop (c * slot)) b_is ∙ drop_at (take (c * slot) bs) pb (c * slot) lb₁)
 
-      pub least-both : Present size (c + c₂) w₃
+      least-both : Present size (c + c₂) w₃
       least-both i h f = go (ltb i c) refl
         where
           z : 0 < size
-          z = omega (arith, one_more shape.e shape.n, r.laid.0.shaped.some_station)
+          z = omega (arith, one_more run.x.e run.x.n, run.x.some_station)
 
           go : (t : Bool) → ltb i c ≡ t → ⊥
           go true g =
@@ -207,17 +218,14 @@ module _ (s b : Bool) (shape : Shape) (q q' starts values : List ℕ) (w₀ b₀
               (sym (get_or-append-add (take (c * size) w) p ((i - c) * size) 0) ∙ ap₂ (λ (x : List ℕ) (y : ℕ). get_or x y 0) (sym w_is) (sym o) ∙ f)
 
       -- What stands for whatever two formulas are read.
-      second_reads : (f g : Formula) (rest : List ℕ) → drop 1 q ≡ prefix f ++ (prefix g ++ rest) → q₂ ≡ prefix g ++ rest
-      second_reads f g rest e = d₂ ∙ tokens.second q u (prefix f) (prefix g ++ rest) e (m.passed f (prefix g ++ rest) (d ∙ e))
-
-      module _ (K : Computation) (f g : Formula) (rest : List ℕ) (laid : Given K shape starts values) (e : drop 1 q ≡ prefix f ++ (prefix g ++ rest)) where
-        left_is : standing shape.n (full K) c w₃ b₃ ≡ basis K (normal s f)
+      module _ (K : Computation) (f g : Formula) (rest : List ℕ) (laid : Given K run) (e : drop 1 q ≡ prefix f ++ (prefix g ++ rest)) where
+        left_is : standing run.x.n (full K) c w₃ b₃ ≡ basis K (normal s f)
         left_is = left-stands K laid.0 ∙ m.stands K f (prefix g ++ rest) laid (d ∙ e)
 
-        right_is : standing shape.n (full K) c₂ (drop (c * size) w₃) (drop (c * slot) b₃) ≡ basis K (normal s g)
+        right_is : standing run.x.n (full K) c₂ (drop (c * size) w₃) (drop (c * slot) b₃) ≡ basis K (normal s g)
         right_is = right-stands K laid.0 ∙ m₂.stands K g rest laid (second_reads f g rest e)
 
-        bases_are : Bases shape sets sets₂ w₃ b₃ K
+        bases_are : Bases run.x sets sets₂ w₃ b₃ K
         bases_are = record {
           good_left = basis-good K laid.0.valid (normal s f) _ left_is;
           good_right = basis-good K laid.0.valid (normal s g) _ right_is;
@@ -225,21 +233,21 @@ module _ (s b : Bool) (shape : Shape) (q q' starts values : List ℕ) (w₀ b₀
           marked_right = subst (λ (X : List Structure). Marked K X sets₂.stations) (sym right_is) (m₂.marked K g rest laid (second_reads f g rest e));
         }
 
-      module _ (t : Bool) (flag : t ≡ beq b s) where
+      module _ {t : Bool} (flag : t ≡ beq b s) where
         joined_is : (K : Computation) (f f₃ f₄ : Formula) → f ≡ two b f₃ f₄ → joined_basis t K (basis K (normal s f₃)) (basis K (normal s f₄)) ≡ basis K (normal s f)
         joined_is K f f₃ f₄ e =
             ap (λ (g : Bool). joined_basis g K (basis K (normal s f₃)) (basis K (normal s f₄))) flag
             ∙ sym (normals.basis-joined (beq b s) K (normal s f₃) (normal s f₄)) ∙ ap (basis K) (sym (ap (normal s) e ∙ signed.normal-two s b f₃ f₄))
 
-        pub pairs_ready : t ≡ true → PairsReady shape sets sets₂ w₃ b₃
+        pairs_ready : t ≡ true → PairsReady run.x sets sets₂ w₃ b₃
         unfolding width
         pairs_ready g =
             let pair : normal s r.formula ≡ both (normal s f₁) (normal s f₂) = form ∙ ap (λ (x : Bool). joined_form x (normal s f₁) (normal s f₂)) (sym flag ∙ g) in
             let nb = narrow_both (normal s f₁) (normal s f₂) (sym (ap narrow pair) ∙ r.slim) in
             let prod : c * c₂ ≤ width (normal s f₁) * width (normal s f₂) = mul-le-mul left_done.wide right_done.wide in
             let tot : c + c₂ + c * c₂ ≤ held (normal s r.formula) = omega (arith, (held_both (normal s f₁) (normal s f₂)).2, ap held pair, left_done.wide, right_done.wide, prod) in
-            let len : length w₃ ≡ length w₀ = same_len_mid (c * size) (length w - c * size) w p lp ∙ lw in
-            let lenb : length b₃ ≡ length b₀ = same_len_mid (c * slot) (length bs - c * slot) bs pb lpb ∙ lb in
+            let len : length w₃ ≡ mw = same_len_mid (c * size) (length w - c * size) w p lp ∙ lw in
+            let lenb : length b₃ ≡ mb = same_len_mid (c * slot) (length bs - c * slot) bs pb lpb ∙ lb in
             let L = left_is r.computation f₁ f₂ r.rest r.laid reads_two in
             let R = right_is r.computation f₁ f₂ r.rest r.laid reads_two in
             record {
@@ -249,30 +257,41 @@ module _ (s b : Bool) (shape : Shape) (q q' starts values : List ℕ) (w₀ b₀
               cells_fit = omega (arith, mul-le-mul_right size tot, r.cells_fit, len);
               bars_fit = omega (arith, mul-le-mul_right slot tot, r.bars_fit, lenb);
               bars = λ i j hi hj.
-                  let x : length (bars_at shape.n 16 (drop (i * slot) b₃)) ≤ bars (normal s f₁) =
+                  let x : length (bars_at run.x.n 16 (drop (i * slot) b₃)) ≤ bars (normal s f₁) =
                   omega (
                     arith,
-                    ap length (sym (bars-at shape.n (full r.computation) c w₃ b₃ (structure_at shape.n [] [] []) i hi)),
-                    ap (λ (l : List Structure). length (get_or l i (structure_at shape.n [] [] [])).bars) L,
-                    basis-bars-at r.computation (normal s f₁) (structure_at shape.n [] [] []) i (omega (arith, ap length (sym L), length-standing shape.n (full r.computation) c w₃ b₃)),
+                    ap length (sym (bars-at run.x.n (full r.computation) c w₃ b₃ (structure_at run.x.n [] [] []) i hi)),
+                    ap (λ (l : List Structure). length (get_or l i (structure_at run.x.n [] [] [])).bars) L,
+                    basis-bars-at r.computation (normal s f₁) (structure_at run.x.n [] [] []) i (omega (arith, ap length (sym L), length-standing run.x.n (full r.computation) c w₃ b₃)),
                   ) in
                   let o : drop ((c + j) * slot) b₃ ≡ drop (j * slot) (drop (c * slot) b₃) = ap (λ (a : ℕ). drop a b₃) (add-mul c j slot) ∙ sym (drop-drop (j * slot) (c * slot) b₃) in
-                  let y : length (bars_at shape.n 16 (drop ((c + j) * slot) b₃)) ≤ bars (normal s f₂) =
+                  let y : length (bars_at run.x.n 16 (drop ((c + j) * slot) b₃)) ≤ bars (normal s f₂) =
                   omega (
                     arith,
-                    ap (λ (l : List ℕ). length (bars_at shape.n 16 l)) o,
-                    ap length (sym (bars-at shape.n (full r.computation) c₂ (drop (c * size) w₃) (drop (c * slot) b₃) (structure_at shape.n [] [] []) j hj)),
-                    ap (λ (l : List Structure). length (get_or l j (structure_at shape.n [] [] [])).bars) R,
-                    basis-bars-at r.computation (normal s f₂) (structure_at shape.n [] [] []) j (omega (arith, ap length (sym R), length-standing shape.n (full r.computation) c₂ (drop (c * size) w₃) (drop (c * slot) b₃))),
+                    ap (λ (l : List ℕ). length (bars_at run.x.n 16 l)) o,
+                    ap length (sym (bars-at run.x.n (full r.computation) c₂ (drop (c * size) w₃) (drop (c * slot) b₃) (structure_at run.x.n [] [] []) j hj)),
+                    ap (λ (l : List Structure). length (get_or l j (structure_at run.x.n [] [] [])).bars) R,
+                    basis-bars-at r.computation (normal s f₂) (structure_at run.x.n [] [] []) j (omega (arith, ap length (sym R), length-standing run.x.n (full r.computation) c₂ (drop (c * size) w₃) (drop (c * slot) b₃))),
                   ) in
                   omega (arith, nb.1);
               within_left = m.within;
               within_right = m₂.within;
             }
 
-        pub made_two : (sets₃ : Sets) (u₃ v₃ : ℕ) (w₄ b₄ : List ℕ) → u₃ ≡ u + 1 + u₂ → Combined t shape sets sets₂ v v₂ starts w₃ w₄ b₃ b₄ sets₃ v₃
-            → Made s shape q starts values sets₃ u₃ v₃ w₄ b₄
-        made_two sets₃ u₃ v₃ w₄ b₄ eu C = record {
+        pub second : Second run.x sets sets₂ u₂ v₂ w₃ b₃ t
+        second = record {
+          few = right_done.few;
+          short = right_done.short;
+          small = right_done.small;
+          present = least-both;
+          within_left = m.within;
+          within_right = m₂.within;
+          ready = pairs_ready;
+        }
+
+        pub made_two : {sets₃ : Sets} {u₃ v₃ : ℕ} {w₄ b₄ : List ℕ} → u₃ ≡ u + 1 + u₂ → Combined t run.x sets sets₂ v v₂ run.starts.now w₃ w₄ b₃ b₄ sets₃ v₃
+            → Made s run q sets₃ u₃ v₃ w₄ b₄
+        made_two {sets₃ = sets₃} eu C = record {
           passed = λ f rest rd.
               let h = tokens.behind-two q f rest rd b k in
               let x : u ≡ length (prefix h.0) = m.passed h.0 (prefix h.1 ++ rest) (d ∙ h.3) in
@@ -298,7 +317,7 @@ module _ (s b : Bool) (shape : Shape) (q q' starts values : List ℕ) (w₀ b₀
               let h = tokens.behind-two q f rest rd b k in
               subst (λ (X : List Structure). Marked K X sets₃.stations) (joined_is K f h.0 h.1 h.2)
               (C.joined.marked K (basis K (normal s h.0)) (basis K (normal s h.1))
-              (sym (ap length (left_is K h.0 h.1 rest laid h.3)) ∙ length-standing shape.n (full K) c w₃ b₃)
+              (sym (ap length (left_is K h.0 h.1 rest laid h.3)) ∙ length-standing run.x.n (full K) c w₃ b₃)
               (m.marked K h.0 (prefix h.1 ++ rest) laid (d ∙ h.3)) (m₂.marked K h.1 rest laid (second_reads h.0 h.1 rest h.3)));
           within = C.joined.within;
         }

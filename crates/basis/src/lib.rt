@@ -3,84 +3,94 @@
 
 ghost use Rattle.std.specs.Prelude.{true, false, length};
 ghost use Rattle.token.specs.Contract.{Ready, Made};
+ghost use Rattle.basis.specs.Form.{FormOf};
 
-use cells::after;
 use joining::combine;
-use structure::Shape;
+use model::Token;
+use structure::Run;
 use token::{Basis, leaf, lift, passed};
 
+// What a formula is, by its token. An own enum beside Token: both rules take 03 and 04 in one arm, and an or-pattern tells a proof of neither.
+#[derive(Clone, Copy)]
+enum Form {
+    Atom,
+    Not,
+    Two { and: bool },
+    Possibly,
+    Always,
+}
+
+// The form that a token says; a byte that is none begins no formula.
+impl From<u8> for Form {
+    ghost from_gives = { FormOf };
+
+    fn from(byte: u8) -> Form {
+        match Token::try_from(byte) {
+            Ok(Token::Range(_)) => Form::Atom,
+            Ok(Token::Clear) => Form::Atom,
+            Ok(Token::Not) => Form::Not,
+            Ok(Token::And) => Form::Two { and: true },
+            Ok(Token::Or) => Form::Two { and: false },
+            Ok(Token::Possibly) => Form::Possibly,
+            Ok(Token::Always) => Form::Always,
+            Err(_) => Form::Atom,
+        }
+    }
+}
+
 // A formula as true.
+// Two functions in a cycle, as document 01 asks for two rules that call each other.
 #[cycle(basis_false_basis_true)]
-pub fn basis_true(
-    q: &[u8],
-    ws: &mut [u8],
-    bs: &mut [u8],
-    x: Shape,
-    starts: &[u8],
-    facts: &[u16],
-) -> Basis
-    requires { Ready true x q.now starts.now facts.now (length ws.old) (length bs.old) }
-    ensures { Made true x q.now starts.now facts.now result.sets result.used result.rounds ws.new bs.new }
+pub fn basis_true(q: &[u8], ws: &mut [u8], bs: &mut [u8], run: &Run<'_>) -> Basis
+    requires { Ready true run.now q.now (length ws.old) (length bs.old) }
+    ensures { Made true run.now q.now result.sets result.used result.rounds ws.new bs.new }
 {
-    let n = x.n;
-    let e = x.e;
-    let t = q[0];
-    match t {
-        2 => passed(basis_false(after(q, 1), ws, bs, x, starts, facts)),
-        3 | 4 => {
-            let l = basis_true(after(q, 1), ws, bs, x, starts, facts);
-            let m = l.used + 1;
-            let k = l.sets.count * ((e + 1) * n);
-            let b = l.sets.count * (16 * n);
-            let r = basis_true(after(q, m), &mut ws[k..], &mut bs[b..], x, starts, facts);
-            combine(ws, bs, t == 3, l, r, x, starts)
+    let rest = &q[1..];
+    match Form::from(q[0]) {
+        Form::Atom => leaf(q, ws, bs, run, true),
+        Form::Not => passed(basis_false(rest, ws, bs, run)),
+        Form::Two { and } => {
+            let l = basis_true(rest, ws, bs, run);
+            let k = l.sets.count * ((run.x.e + 1) * run.x.n);
+            let b = l.sets.count * (16 * run.x.n);
+            let r = basis_true(&rest[l.used..], &mut ws[k..], &mut bs[b..], run);
+            combine(ws, bs, and, l, r, run.x, run.starts)
         }
-        5 => {
-            let p = basis_true(after(q, 1), ws, bs, x, starts, facts);
-            lift(ws, bs, true, p, x, starts)
+        Form::Possibly => {
+            let p = basis_true(rest, ws, bs, run);
+            lift(ws, bs, true, p, run.x, run.starts)
         }
-        6 => {
-            let p = basis_false(after(q, 1), ws, bs, x, starts, facts);
-            lift(ws, bs, false, p, x, starts)
+        Form::Always => {
+            let p = basis_false(rest, ws, bs, run);
+            lift(ws, bs, false, p, run.x, run.starts)
         }
-        0 | 1 | 7..=255 => leaf(q, ws, bs, x, starts, facts, true),
     }
 }
 
 // A formula as false.
 #[cycle(basis_false_basis_true)]
-pub fn basis_false(
-    q: &[u8],
-    ws: &mut [u8],
-    bs: &mut [u8],
-    x: Shape,
-    starts: &[u8],
-    facts: &[u16],
-) -> Basis
-    requires { Ready false x q.now starts.now facts.now (length ws.old) (length bs.old) }
-    ensures { Made false x q.now starts.now facts.now result.sets result.used result.rounds ws.new bs.new }
+pub fn basis_false(q: &[u8], ws: &mut [u8], bs: &mut [u8], run: &Run<'_>) -> Basis
+    requires { Ready false run.now q.now (length ws.old) (length bs.old) }
+    ensures { Made false run.now q.now result.sets result.used result.rounds ws.new bs.new }
 {
-    let n = x.n;
-    let e = x.e;
-    let t = q[0];
-    match t {
-        2 => passed(basis_true(after(q, 1), ws, bs, x, starts, facts)),
-        3 | 4 => {
-            let l = basis_false(after(q, 1), ws, bs, x, starts, facts);
-            let m = l.used + 1;
-            let k = l.sets.count * ((e + 1) * n);
-            let b = l.sets.count * (16 * n);
-            let r = basis_false(after(q, m), &mut ws[k..], &mut bs[b..], x, starts, facts);
-            combine(ws, bs, t == 4, l, r, x, starts)
+    let rest = &q[1..];
+    match Form::from(q[0]) {
+        Form::Atom => leaf(q, ws, bs, run, false),
+        Form::Not => passed(basis_true(rest, ws, bs, run)),
+        Form::Two { and } => {
+            let l = basis_false(rest, ws, bs, run);
+            let k = l.sets.count * ((run.x.e + 1) * run.x.n);
+            let b = l.sets.count * (16 * run.x.n);
+            let r = basis_false(&rest[l.used..], &mut ws[k..], &mut bs[b..], run);
+            combine(ws, bs, !and, l, r, run.x, run.starts)
         }
-        5 => {
-            let p = basis_true(after(q, 1), ws, bs, x, starts, facts);
-            lift(ws, bs, false, p, x, starts)
+        Form::Possibly => {
+            let p = basis_true(rest, ws, bs, run);
+            lift(ws, bs, false, p, run.x, run.starts)
         }
-        6 => {
-            let p = basis_false(after(q, 1), ws, bs, x, starts, facts);
-            lift(ws, bs, true, p, x, starts)
+        Form::Always => {
+            let p = basis_false(rest, ws, bs, run);
+            lift(ws, bs, true, p, run.x, run.starts)
         }
-        0 | 1 | 7..=255 => leaf(q, ws, bs, x, starts, facts, false),
     }
 }

@@ -13,7 +13,6 @@ use Rattle.model.specs.Answer.{not_inside, precedes, insert}
 use Rattle.structure.specs.Layout.{cuts_at}
 use Rattle.cells.proofs.Parts.{paste_behind}
 use Rattle.structure.proofs.Listed.{cuts-more}
-use Rattle.cuts.specs.Cuts.{added}
 use Rattle.cuts.proofs.Cuts.{cuts_all, cuts_from, cuts-none, cuts-put}
 
 not_inside-snoc : (c d : Cut) (l : List Cut) → not_inside c (l ++ (d ∷ [])) ≡ cond (inside d c) (not_inside c l) (not_inside c l ++ (d ∷ []))
@@ -95,14 +94,3 @@ module _
           ap (drop ((i + 1) * n)) p ∙ paste_behind v (left * n) s n (omega arith) f ((i + 1) * n) (omega (arith, add-mul i 1 n)) ∙ next-rest,
           ap₂ (λ (j : ℕ) (t : List ℕ). cuts_at n j t) q p ∙ cuts-put v s n left (omega arith) f ∙ sym (next ∙ rw (← e, not-true b t)),
         )
-
--- A cut is added: nothing new, or in its place among those that it does not contain.
-pub adds-nothing : (c : Cut) (l : List Cut) {b : Bool} → b ≡ inside_any c l → b ≡ true → l ≡ added c l
-adds-nothing c l e t = rw (← e, t)
-
-pub adds_one : (c : Cut) (l : List Cut) (u v : List ℕ) (n p left : ℕ) {b : Bool} → b ≡ inside_any c l → b ≡ false
-    → cuts_at n left v ≡ not_inside c l
-    → insert c (cuts_at n left v) ≡ cuts_at n p v ++ (c ∷ cuts_at n (left - p) (drop (p * n) v))
-    → cuts_at n (left + 1) u ≡ cuts_at n p v ++ (c ∷ cuts_at n (left - p) (drop (p * n) v))
-    → cuts_at n (left + 1) u ≡ added c l
-adds_one c l u v n p left e f s q r = r ∙ sym q ∙ rw (← e, f, s)

@@ -4,11 +4,12 @@ use Prim.Native.Nat.{ℕ, suc, ◌+◌, ◌*◌, ◌-◌, ◌≤◌, ◌<◌}
 use native.Mathlib.Nat.{le_trans, add-mul, add-sub_of_le}
 use native.Mathlib.Omega.{arith}
 use mathlib.Core.List.{List, [], ◌∷◌, ◌++◌}
-use lib.ListN.{length, take, drop}
-use lib.Seq.{drop-drop, paste, slice}
+use lib.ListN.{length, take, drop, length-drop}
+use lib.Seq.{drop-drop, take-take, paste}
+use Rattle.std.proofs.lemmas.List.Edits.{length-paste}
 use Rattle.model.specs.Cut.{Cut}
 use Rattle.structure.specs.Layout.{cuts_at}
-use Rattle.cells.proofs.Parts.{drop-take, paste_front, paste_part, paste_behind}
+use Rattle.cells.proofs.Parts.{paste_front, paste_part, paste_behind}
 use Rattle.structure.proofs.Places.{next_fits}
 use Rattle.structure.proofs.Listed.{cuts-add, cuts-more, cuts_same}
 
@@ -40,37 +41,33 @@ cuts-put w s n k h l =
     ∙ ap₂ (λ (a : List Cut) (c : Cut). a ++ (c ∷ [])) (cuts_same n k (paste w (k * n) s n) w (paste_front w (k * n) s n h l)) (paste_part w (k * n) s n h l)
 
 -- A cut is put in at the p-th of k cuts, those from there on having moved up.
-module _
-    (w v s : List ℕ)
-    (n p k : ℕ)
-    (h : p ≤ k)
-    (room : (k + 1) * n ≤ length w)
-    (same : length v ≡ length w)
-    (size : n ≤ length s)
-    (front : take (p * n) v ≡ take (p * n) w)
-    (back : slice (p * n + n) (k * n + n) v ≡ slice (p * n) (k * n) w)
-  where
-    moved : cuts_at n (k - p) (drop (p * n + n) v) ≡ cuts_at n (k - p) (drop (p * n) w)
-    moved =
-        let e : k * n ≡ p * n + (k - p) * n = omega (arith, ap (λ (i : ℕ). i * n) (add-sub_of_le h), add-mul p (k - p) n) in
-        let f : k * n + n ≡ p * n + n + (k - p) * n = omega arith in
-        cuts_same n (k - p) (drop (p * n + n) v) (drop (p * n) w)
-        (sym (drop-take (p * n + n) ((k - p) * n) v) ∙ ap (λ (i : ℕ). slice (p * n + n) i v) (sym f) ∙ back
-        ∙ ap (λ (i : ℕ). slice (p * n) i w) e ∙ drop-take (p * n) ((k - p) * n) w)
+module _ (w s : List ℕ) (n p k : ℕ) (h : p ≤ k) (room : (k + 1) * n ≤ length w) (size : n ≤ length s) where
+  abbrev up : List ℕ
+  up = paste w (p * n + n) (drop (p * n) w) ((k - p) * n)
 
-    inserted : cuts_at n (k + 1) (paste v (p * n) s n) ≡ cuts_at n p w ++ (take n s ∷ cuts_at n (k - p) (drop (p * n) w))
-    unfolding cuts_at
-    inserted =
-        let u = paste v (p * n) s n in
-        let e : k + 1 ≡ p + suc (k - p) = omega arith in
-        let f : p * n + n ≤ length w = omega (arith, within n p (k + 1) (omega arith) room) in
-        let g : p * n ≤ length v = omega arith in
-        ap (λ (i : ℕ). cuts_at n i u) e ∙ cuts-add n p (suc (k - p)) u
-        ∙ ap₂ (λ (a b : List Cut). a ++ b)
-        (cuts_same n p u w (paste_front v (p * n) s n g size ∙ front))
-        (ap₂ (λ (c : Cut) (l : List Cut). c ∷ l)
-        (paste_part v (p * n) s n g size)
-        (ap (cuts_at n (k - p)) (drop-drop n (p * n) u ∙ paste_behind v (p * n) s n g size (p * n + n) (omega arith)) ∙ moved))
+  ends : (k + 1) * n ≡ p * n + n + (k - p) * n
+  ends = omega (arith, ap (λ (i : ℕ). i * n) (add-sub_of_le h), add-mul p (k - p) n, add-mul k 1 n)
 
-    pub cuts-insert : (u : List ℕ) → u ≡ paste v (p * n) s n → cuts_at n (k + 1) u ≡ cuts_at n p w ++ (take n s ∷ cuts_at n (k - p) (drop (p * n) w))
-    cuts-insert u e = ap (cuts_at n (k + 1)) e ∙ inserted
+  rest : (k - p) * n ≤ length (drop (p * n) w)
+  rest = simp length-drop (omega (arith, ends))
+
+  front : take (p * n) up ≡ take (p * n) w
+  front =
+      sym (take-take (p * n) (p * n + n) up (omega arith)) ∙ ap (take (p * n)) (paste_front w (p * n + n) (drop (p * n) w) ((k - p) * n) (omega (arith, ends)) rest)
+      ∙ take-take (p * n) (p * n + n) w (omega arith)
+
+  moved : cuts_at n (k - p) (drop (p * n + n) up) ≡ cuts_at n (k - p) (drop (p * n) w)
+  moved = cuts_same n (k - p) (drop (p * n + n) up) (drop (p * n) w) (paste_part w (p * n + n) (drop (p * n) w) ((k - p) * n) (omega (arith, ends)) rest)
+
+  pub cuts-insert : cuts_at n (k + 1) (paste up (p * n) s n) ≡ cuts_at n p w ++ (take n s ∷ cuts_at n (k - p) (drop (p * n) w))
+  unfolding cuts_at
+  cuts-insert =
+      let u = paste up (p * n) s n in
+      let e : k + 1 ≡ p + suc (k - p) = omega arith in
+      let g : p * n ≤ length up = omega (arith, ends, length-paste w (p * n + n) (drop (p * n) w) ((k - p) * n) (omega (arith, ends)) rest) in
+      ap (λ (i : ℕ). cuts_at n i u) e ∙ cuts-add n p (suc (k - p)) u
+      ∙ ap₂ (λ (a b : List Cut). a ++ b)
+      (cuts_same n p u w (paste_front up (p * n) s n g size ∙ front))
+      (ap₂ (λ (c : Cut) (l : List Cut). c ∷ l)
+      (paste_part up (p * n) s n g size)
+      (ap (cuts_at n (k - p)) (drop-drop n (p * n) u ∙ paste_behind up (p * n) s n g size (p * n + n) (omega arith)) ∙ moved))

@@ -2,7 +2,6 @@
 #![tactic(auto)]
 
 ghost use Rattle.std.specs.Prelude.{◌≡◌, ◌∷◌, ◌++◌, ◌+◌, ◌*◌, ◌-◌, ◌≤◌, ◌<◌, length, take, drop};
-ghost use Rattle.std.proofs.Math.Seq.{slice};
 ghost use Rattle.model.specs.Cut.{inside_any};
 ghost use Rattle.model.specs.Answer.{not_inside, precedes, insert};
 ghost use Rattle.structure.specs.Layout.{cuts_at};
@@ -13,12 +12,10 @@ fn in_one(cut: &[u8], cuts: &[u8], count: usize, n: usize) -> bool
     requires { (n ≤ length cut.now) × (count * n ≤ length cuts.now) }
     ensures { result ≡ inside_any (take n cut.now) (cuts_at n count cuts.now) }
 {
-    let mut i = 0;
-    while i < count {
+    for i in 0..count {
         if cells::contained(cut, 0, cuts, i * n, n) {
             return true;
         }
-        i += 1;
     }
     false
 }
@@ -29,13 +26,11 @@ fn take_out(cut: &[u8], cuts: &mut [u8], count: usize, n: usize) -> usize
     ensures { (result ≤ count) × (cuts_at n result cuts.new ≡ not_inside (take n cut.now) (cuts_at n count cuts.old)) }
 {
     let mut left = 0;
-    let mut i = 0;
-    while i < count {
+    for i in 0..count {
         if !cells::contained(cuts, i * n, cut, 0, n) {
             cells::shift(cuts, i * n, left * n, n);
             left += 1;
         }
-        i += 1;
     }
     left
 }
@@ -45,19 +40,7 @@ fn precedes(cut: &[u8], cuts: &[u8], at: usize, n: usize) -> bool
     requires { (n ≤ length cut.now) × (at + n ≤ length cuts.now) }
     ensures { result ≡ precedes (take n cut.now) (take n (drop at cuts.now)) }
 {
-    let mut j = 0;
-    while j < n {
-        let a = cut[j];
-        let b = cuts[at + j];
-        if a < b {
-            return true;
-        }
-        if b < a {
-            return false;
-        }
-        j += 1;
-    }
-    false
+    cut[..n] < cuts[at..at + n]
 }
 
 // The number of cuts that a cut stands behind.
@@ -65,26 +48,12 @@ fn place(cut: &[u8], cuts: &[u8], count: usize, n: usize) -> usize
     requires { (n ≤ length cut.now) × (count * n ≤ length cuts.now) }
     ensures { (result ≤ count) × (insert (take n cut.now) (cuts_at n count cuts.now) ≡ cuts_at n result cuts.now ++ (take n cut.now ∷ cuts_at n (count - result) (drop (result * n) cuts.now))) }
 {
-    let mut i = 0;
-    while i < count {
+    for i in 0..count {
         if precedes(cut, cuts, i * n, n) {
             return i;
         }
-        i += 1;
     }
-    i
-}
-
-// The cells from a place up to an end, moved up by n, the last first.
-fn shift_up(cells: &mut [u8], from: usize, end: usize, n: usize)
-    requires { (from ≤ end) × (end + n ≤ length cells.old) }
-    ensures { (take from cells.new ≡ take from cells.old) × (slice (from + n) (end + n) cells.new ≡ slice from end cells.old) }
-{
-    let mut k = end;
-    while from < k {
-        k -= 1;
-        cells[k + n] = cells[k];
-    }
+    count
 }
 
 // One more cut, at the place of one of them or behind the last.
@@ -92,11 +61,13 @@ fn insert_at(cuts: &mut [u8], cut: &[u8], place: usize, count: usize, n: usize)
     requires { (n ≤ length cut.now) × (place ≤ count) × ((count + 1) * n ≤ length cuts.old) }
     ensures { cuts_at n (count + 1) cuts.new ≡ cuts_at n place cuts.old ++ (take n cut.now ∷ cuts_at n (count - place) (drop (place * n) cuts.old)) }
 {
-    shift_up(cuts, place * n, count * n, n);
-    cells::copy(cuts, place * n, cut, 0, n);
+    let at = place * n;
+    cells::shift(cuts, at, at + n, (count - place) * n);
+    cells::copy(cuts, at, cut, 0, n);
 }
 
 // One more cut among cuts none of which contains another: no change if one contains it, else those that it contains go.
+// A count beside the cells: those behind the counted cuts are room for one more.
 pub fn add_cut(cuts: &mut [u8], count: usize, n: usize, cut: &[u8]) -> usize
     requires { (0 < n) × (n ≤ length cut.now) × ((count + 1) * n ≤ length cuts.old) }
     ensures { (result ≤ count + 1) × (cuts_at n result cuts.new ≡ added (take n cut.now) (cuts_at n count cuts.old)) }

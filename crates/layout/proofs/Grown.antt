@@ -12,7 +12,7 @@ use Rattle.model.specs.Frames.{word}
 use Rattle.model.specs.Lists.{sum, total}
 use Rattle.table.specs.Table.{slot}
 use Rattle.layout.specs.Rows.{in_turn, clock_in, clocks_in, starts_in, values_of, values_in}
-use Rattle.offsets.proofs.Totals.{sum-next}
+use Rattle.offsets.proofs.Totals.{sum_next}
 
 pub none_yet : (d : List ℕ) (at : ℕ) → take (at + 0) d ≡ take at d ++ []
 none_yet d at = rw (add-zero at, append-nil (take at d))
@@ -53,7 +53,7 @@ module _ (t counts d d' : List ℕ) (n j m b : ℕ) (h : j < n) (has : m ≡ get
       → take (total (take (j + 1) (take n counts)) + (j + 1)) d' ≡ values_in i t counts (j + 1)
   unfolding values_in in_turn
   values_more i p q =
-      let w : total (take (j + 1) (take n counts)) + (j + 1) ≡ b + j + (m + 1) = omega (arith, sum-next counts n j h) in
+      let w : total (take (j + 1) (take n counts)) + (j + 1) ≡ b + j + (m + 1) = omega (arith, sum_next counts n j h) in
       let e : values_in i t counts (j + 1) ≡ values_in i t counts j ++ values_of i t j (m + 1) = rw (add-one j, add-one m, has) in
       rw (w, e) (part_more d d' (values_in i t counts j) (values_of i t j (m + 1)) (b + j) (b + j + (m + 1)) (rw before p) q)
 
@@ -61,7 +61,7 @@ module _ (t counts d d' : List ℕ) (n j m b : ℕ) (h : j < n) (has : m ≡ get
       → take ((total (take (j + 1) (take n counts)) + 1) * n) d' ≡ starts_in t n counts (j + 1)
   unfolding starts_in in_turn
   starts_more p q =
-      let s : total (take (j + 1) (take n counts)) + 1 ≡ b + 1 + m = omega (arith, sum-next counts n j h) in
+      let s : total (take (j + 1) (take n counts)) + 1 ≡ b + 1 + m = omega (arith, sum_next counts n j h) in
       let w : (total (take (j + 1) (take n counts)) + 1) * n ≡ (b + 1) * n + m * n = ap (λ (x : ℕ). x * n) s ∙ add-mul (b + 1) m n in
       let e : starts_in t n counts (j + 1) ≡ starts_in t n counts j ++ clocks_in t n j m = rw (add-one j, has) (sym (append_assoc (clock_in t n 0 0) (in_turn (λ i. clocks_in t n i (get_or counts i 0)) j) (clocks_in t n j (get_or counts j 0)))) in
       rw (w, e) (part_more d d' (starts_in t n counts j) (clocks_in t n j m) ((b + 1) * n) ((b + 1) * n + m * n) (rw before p) q)

@@ -17,7 +17,6 @@ use Rattle.model.specs.Atom.{seen}
 use Rattle.model.specs.Reading.{report_of}
 use Rattle.structure.specs.Layout.{stations_at}
 use Rattle.structure.specs.declared.Shape.{Shape}
-use Rattle.structure.specs.Shaped.{Shaped}
 use Rattle.structure.specs.Laid.{message_at, Laid, aspect_at, Facts}
 use Rattle.model.specs.declared.Aspect.{Aspect}
 use Rattle.model.specs.declared.Aspect.TheVariants.{Value, Panel}
@@ -27,7 +26,7 @@ use Rattle.layout.specs.Rows.{in_turn, clock_in, clocks_in, starts_in, byte_of, 
 use Rattle.layout.specs.Messages.{Filled}
 use Rattle.layout.specs.StoredValid.{StoredValid}
 use Rattle.lattice.proofs.Lists.{some_below}
-use Rattle.offsets.proofs.Totals.{sum-next, sum-few}
+use Rattle.offsets.proofs.Totals.{sum_next, sum_few}
 use Rattle.layout.proofs.Room.{rows_fit}
 use Rattle.layout.proofs.Turns.{spread, turns, turn_at, turn_total}
 use Rattle.layout.proofs.Cells.{Rows, clocks, stations_are}
@@ -43,11 +42,6 @@ aspect_room : (a : Aspect) → aspect_at a + reports_size ≤ values_size
 aspect_room Value = omega arith
 aspect_room Panel = omega arith
 
--- The numbers in order.
-pub shaped_of : (n e : ℕ) (counts offs : List ℕ) → 0 < n → n ≤ limits.stations → total (take n counts) ≤ limits.events → total (take n counts) ≡ e
-    → ((j : ℕ) → j < n → get_or offs j 0 ≡ total (take j (take n counts))) → Shaped (record { n = n; e = e; counts = counts; offs = offs })
-shaped_of n e counts offs z small few t-is o = record { some_station = z; few_stations = small; few_events = omega arith; events_are = t-is; offs_are = o }
-
 -- the counts of a loaded log
 module _ {K : Computation} {n m : ℕ} {counts t : List ℕ} (g : StoredValid K n m counts t) (fit : n ≤ length counts) where
   pub counts-full : take n counts ≡ full K
@@ -60,7 +54,7 @@ module _ {K : Computation} {n m : ℕ} {counts t : List ℕ} (g : StoredValid K 
   -- the clocks and the values of the store
   module _ (few : total (take n counts) ≤ limits.events) (small : n ≤ limits.stations) (long : length t ≡ store_size) where
     count-few : (j : ℕ) → j < n → count K j ≤ limits.events
-    count-few j h = omega (arith, sum-few counts n j h, g.stored.each j)
+    count-few j h = omega (arith, sum_few counts n j h, g.stored.each j)
 
     clock-at : (j k : ℕ) → j < n → k ≤ count K j → clock_in t n j k ≡ clock K j k
     unfolding clock_in
@@ -130,52 +124,51 @@ module _ {K : Computation} {n m : ℕ} {counts t : List ℕ} (g : StoredValid K 
     before-length : (i j : ℕ) → j ≤ n → length (values_in i t counts j) ≡ total (take j (take n counts)) + j
     unfolding values_in sum
     before-length i = turn_total (λ x. values_of i t x (suc (get_or counts x 0))) (λ j. total (take j (take n counts)) + j) refl n
-        (λ j h. rw (← add-one j) (omega (arith, sum-next counts n j h, values_long i j (suc (get_or counts j 0)))))
+        (λ j h. rw (← add-one j) (omega (arith, sum_next counts n j h, values_long i j (suc (get_or counts j 0)))))
 
     pub values_laid : (a : Aspect) (values : List ℕ) → take (total (take n counts) + n) values ≡ values_in (byte_of a) t counts n
         → (j k : ℕ) → j < n → k ≤ count K j → get_or values (total (take j (take n counts)) + j + k) 0 ≡ seen a (report K j k)
     unfolding values_in
     values_laid a values p j k h b =
         let q : k < suc (get_or counts j 0) = omega (arith, g.stored.each j) in
-        let i : total (take j (take n counts)) + j + k < total (take n counts) + n = omega (arith, sum-few counts n j h) in
+        let i : total (take j (take n counts)) + j + k < total (take n counts) + n = omega (arith, sum_few counts n j h) in
         let o : total (take j (take n counts)) + j + k ≡ length (values_in (byte_of a) t counts j) + k = omega (arith, before-length (byte_of a) j (omega arith)) in
         sym (get_or-take (total (take n counts) + n) values (total (take j (take n counts)) + j + k) 0 i)
         ∙ ap (λ (x : List ℕ). get_or x (total (take j (take n counts)) + j + k) 0) p ∙ ap (λ (x : ℕ). get_or (values_in (byte_of a) t counts n) x 0) o
         ∙ turn_at (λ x. values_of (byte_of a) t x (suc (get_or counts x 0))) j n k h (omega (arith, values_long (byte_of a) j (suc (get_or counts j 0))))
         ∙ station-value (byte_of a) j k (suc (get_or counts j 0)) q ∙ value-at a j k h b
 
-    -- The shape with e events and the offsets offs.
-    module _ (e : ℕ) (offs : List ℕ) (z : 0 < n) (t-is : total (take n counts) ≡ e) (o : (j : ℕ) → j < n → get_or offs j 0 ≡ total (take j (take n counts))) where
-      abbrev x : Shape
-      x = record { n = n; e = e; counts = counts; offs = offs }
+-- THE SHAPE
+module _ {K : Computation} {m : ℕ} {t : List ℕ} (x : Shape) (g : StoredValid K x.n m x.counts t) (fit : x.n ≤ length x.counts) (long : length t ≡ store_size) where
+  few : total (take x.n x.counts) ≤ limits.events
+  few = omega (arith, x.events_are, x.few_events)
 
-      pub laid : (starts : List ℕ) → starts_size ≤ length starts → take ((e + 1) * n) starts ≡ starts_in t n counts n → Laid K x starts
-      laid starts a p =
-          let q : take ((total (take n counts) + 1) * n) starts ≡ starts_in t n counts n = rw t-is p in
-          record {
-            valid = g.valid;
-            shaped = shaped_of n e counts offs z small few t-is o;
-            stationed = g.stored.size;
-            counted = ap total (sym counts-full) ∙ t-is;
-            counts_are = counts-full;
-            starts_fit = omega (arith, rows_fit e n (omega arith) small);
-            starts_least = least-laid starts z q;
-            starts_rows = rows-laid starts z q;
-          }
-
-      pub faced : (d₀ d : List ℕ) → facts_size ≤ length d₀ → length d ≡ length d₀ → m ≤ limits.messages → ((a : Aspect) → take (e + n) (drop (aspect_at a) d₀) ≡ values_in (byte_of a) t counts n) → (get_or d values_size 0 ≡ m) × Filled t m d₀ d → Facts K x d
-      faced d₀ d b l few-m p f = record {
-        shown = λ a j k h o. sym (get_or-drop (aspect_at a) d _ 0) ∙ rw (← counts-full) (values_laid a (drop (aspect_at a) d) (rw t-is (sym (same a) ∙ p a)) j k h o);
-        filed = record {
-          fit = omega arith;
-          few = rw g.messages few-m;
-          number = f.0 ∙ sym g.messages;
-          each = λ q y h. filed y (message_slot q) (message_at q) (g.posted.at q y h) (f.1.each q (rw g.messages at (some_below K.messages q y h)));
-        };
+  pub laid : (starts : List ℕ) → starts_size ≤ length starts → take ((x.e + 1) * x.n) starts ≡ starts_in t x.n x.counts x.n → Laid K x starts
+  laid starts a p =
+      let q : take ((total (take x.n x.counts) + 1) * x.n) starts ≡ starts_in t x.n x.counts x.n = rw x.events_are p in
+      record {
+        valid = g.valid;
+        stationed = g.stored.size;
+        counted = ap total (sym (counts-full g fit)) ∙ x.events_are;
+        counts_are = counts-full g fit;
+        starts_fit = omega (arith, rows_fit x.e x.n x.few_events x.few_stations);
+        starts_least = least-laid g fit few x.few_stations long starts x.some_station q;
+        starts_rows = rows-laid g fit few x.few_stations long starts x.some_station q;
       }
-        where
-          same : (a : Aspect) → take (e + n) (drop (aspect_at a) d₀) ≡ take (e + n) (drop (aspect_at a) d)
-          same a = front_same (drop (aspect_at a) d₀) (drop (aspect_at a) d) (e + n)
-              (simp length-drop (omega (arith, aspect_room a)))
-              (simp length-drop (ap (λ (x : ℕ). x - aspect_at a) (sym l)))
-              (λ i h. get_or-drop (aspect_at a) d₀ i 0 ∙ sym (f.1.before (aspect_at a + i) (omega (arith, aspect_room a))) ∙ sym (get_or-drop (aspect_at a) d i 0))
+
+  pub faced : (d₀ d : List ℕ) → facts_size ≤ length d₀ → length d ≡ length d₀ → m ≤ limits.messages → ((a : Aspect) → take (x.e + x.n) (drop (aspect_at a) d₀) ≡ values_in (byte_of a) t x.counts x.n) → (get_or d values_size 0 ≡ m) × Filled t m d₀ d → Facts K x d
+  faced d₀ d b l few-m p f = record {
+    shown = λ a j k h o. sym (get_or-drop (aspect_at a) d _ 0) ∙ rw (← counts-full g fit) (values_laid g fit few x.few_stations long a (drop (aspect_at a) d) (rw x.events_are (sym (same a) ∙ p a)) j k h o);
+    filed = record {
+      fit = omega arith;
+      few = rw g.messages few-m;
+      number = f.0 ∙ sym g.messages;
+      each = λ q y h. filed y (message_slot q) (message_at q) (g.posted.at q y h) (f.1.each q (rw g.messages at (some_below K.messages q y h)));
+    };
+  }
+    where
+      same : (a : Aspect) → take (x.e + x.n) (drop (aspect_at a) d₀) ≡ take (x.e + x.n) (drop (aspect_at a) d)
+      same a = front_same (drop (aspect_at a) d₀) (drop (aspect_at a) d) (x.e + x.n)
+          (simp length-drop (omega (arith, aspect_room a, x.few_events, x.few_stations)))
+          (simp length-drop (ap (λ (y : ℕ). y - aspect_at a) (sym l)))
+          (λ i h. get_or-drop (aspect_at a) d₀ i 0 ∙ sym (f.1.before (aspect_at a + i) (omega (arith, aspect_room a, x.few_events, x.few_stations))) ∙ sym (get_or-drop (aspect_at a) d i 0))

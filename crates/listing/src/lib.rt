@@ -11,7 +11,6 @@ ghost use Rattle.model.specs.Answer.{tops, sort, answer};
 ghost use Rattle.lattice.specs.Ascending.{RowsAscend};
 ghost use Rattle.lattice.proofs.Lists.{All};
 ghost use Rattle.structure.specs.Layout.{cuts_at, standing};
-ghost use Rattle.structure.specs.Shaped.{Shaped};
 ghost use Rattle.listing.specs.Stands.{Stands};
 ghost use Rattle.listing.specs.Worked.{Worked, answer_of};
 
@@ -20,21 +19,15 @@ use structure::Shape;
 
 // The greatest cuts of the structures, the last first: those contained in no other, in order.
 fn list_cuts(ws: &[u8], count: usize, x: Shape, cuts: &mut [u8]) -> usize
-    requires shaped { Shaped x }
-    requires n_in_bounds { (count * ((x.e + 1) * x.n) ≤ length ws.now) × (count * x.n ≤ length cuts.old) }
+    requires { (count * ((x.e + 1) * x.n) ≤ length ws.now) × (count * x.n ≤ length cuts.old) }
     ensures { (result ≤ count) × ((bs : List ℕ) → All (RowsAscend (take x.n x.counts)) (standing x.n (take x.n x.counts) count ws.now bs)
         → cuts_at x.n result cuts.new ≡ sort (tops (map greatest (standing x.n (take x.n x.counts) count ws.now bs)))) }
 {
-    let n = x.n;
-    let e = x.e;
-    let mut cut = [0u8; 8];
+    let size = (x.e + 1) * x.n;
     let mut listed = 0;
-    let mut i = count;
-    while 0 < i {
-        i -= 1;
-        let at = i * ((e + 1) * n);
-        tops::greatest(ws, at, x, &mut cut);
-        listed = cuts::add_cut(cuts, listed, n, &cut);
+    for i in (0..count).rev() {
+        let cut = tops::greatest(&ws[i * size..], x);
+        listed = cuts::add_cut(cuts, listed, x.n, &cut);
     }
     listed
 }
@@ -42,19 +35,14 @@ fn list_cuts(ws: &[u8], count: usize, x: Shape, cuts: &mut [u8]) -> usize
 // Does a cut belong to one of the structures?
 pub fn belongs_any(ws: &[u8], bs: &[u8], count: usize, x: Shape, cut: &[u8; 8]) -> bool
     requires stands { Stands x count ws.now bs.now }
-    requires cut_len { length cut.now ≡ 8 }
     ensures { result ≡ belongs_any (standing x.n (take x.n x.counts) count ws.now bs.now) (take x.n cut.now) }
 {
-    let n = x.n;
-    let e = x.e;
-    let mut i = 0;
-    while i < count {
-        let at = i * ((e + 1) * n);
-        let bar = i * (16 * n);
-        if structure::belongs(ws, at, bs, bar, x, cut) {
+    let size = (x.e + 1) * x.n;
+    let slot = 16 * x.n;
+    for i in 0..count {
+        if structure::belongs(&ws[i * size..], &bs[i * slot..], x, cut) {
             return true;
         }
-        i += 1;
     }
     false
 }
@@ -64,8 +52,7 @@ fn starts(ws: &[u8], bs: &[u8], count: usize, x: Shape) -> bool
     requires { Stands x count ws.now bs.now }
     ensures { result ≡ belongs_any (standing x.n (take x.n x.counts) count ws.now bs.now) (empty x.n) }
 {
-    let cut = Log::empty_cut();
-    belongs_any(ws, bs, count, x, &cut)
+    belongs_any(ws, bs, count, x, &Log::empty_cut())
 }
 
 // What is listed of a basis: whether its question is true at the cut that holds no event, the number of cuts listed, and the rounds.
@@ -76,7 +63,7 @@ pub struct Listing {
     pub rounds: u32,
 }
 
-// The listing of the basis that stands in the workspace; its cuts go to the front of `cuts`.
+// The listing of the basis that stands in the workspace; its cuts go to the front of `cuts`, lent by the caller, since there is no heap.
 pub fn list(ws: &[u8], bs: &[u8], count: usize, x: Shape, rounds: u32, cuts: &mut [u8]) -> Listing
     requires worked { (K : Computation) × (f : Formula) × Worked K f x count rounds ws.now bs.now }
     requires stations_in_bounds { 16 * limits.stations ≤ length cuts.old }
@@ -85,8 +72,8 @@ pub fn list(ws: &[u8], bs: &[u8], count: usize, x: Shape, rounds: u32, cuts: &mu
     let start = starts(ws, bs, count, x);
     let listed = list_cuts(ws, count, x, cuts);
     Listing {
-        start: start,
+        start,
         count: listed,
-        rounds: rounds,
+        rounds,
     }
 }

@@ -67,7 +67,7 @@ module _ (K : Computation) (shape : Shape) (starts : List ℕ) (laid : Laid K sh
     where
       go : (b : Bool) → decoded (cond b (row_at shape.n i starts) (absent shape.n)) ≡ cond b (some (row_at shape.n i starts)) none
       go true = decoded-some (row_at shape.n i starts) (start-there K shape starts laid i h)
-      go false = decoded-none (absent shape.n) (get_or-replicate shape.n 0 255 0 laid.shaped.some_station)
+      go false = decoded-none (absent shape.n) (get_or-replicate shape.n 0 255 0 shape.some_station)
 
   pub lowered-stands : (g : Cut) (w b : List ℕ) → ((i : ℕ) → i ≤ shape.e → row_at shape.n i w ≡ below_row shape.n g starts i) → (get_or w 0 0 ≡ 255 → ⊥) → get_or b 0 0 ≡ 255
       → structure_at shape.n (full K) w b ∷ [] ≡ build K (below g) []
@@ -154,9 +154,6 @@ module _ (shape : Shape) (i : ℕ) (starts w w₁ p b b₁ q : List ℕ) (z : 0 
 pub lower_none : (shape : Shape) (starts w b : List ℕ) → Possible shape 0 starts w w b b
 unfolding standing lowered each
 lower_none shape starts w b = record { stands = λ K laid asc. refl; least = λ i h. absurd (not-suc-le-zero h); cells_behind = refl; bars_behind = refl }
-
-pub lower_all : (shape : Shape) (i k : ℕ) (starts w w₂ b b₂ : List ℕ) → i ≡ k → Possible shape i starts w w₂ b b₂ → Possible shape k starts w w₂ b b₂
-lower_all shape i k starts w w₂ b b₂ q d = rw (← q) d
 
 -- A part that goes to the end has room.
 pub part_room : (k m : ℕ) (w : List ℕ) → k + m ≤ length w → m ≤ length (take (length w - k) (drop k w))

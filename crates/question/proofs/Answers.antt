@@ -27,7 +27,7 @@ module _ {K : Computation} {f : Formula} {x : Shape} {count sum : ℕ} {ws bs : 
 
   -- The listed cuts are within the cells lent for them.
   pub cuts-within : (k m : ℕ) → k ≤ 16 → m ≡ 16 * limits.stations → k * x.n ≤ m
-  cuts-within k m h l = le_trans (mul-le-mul {n₂ = 16} {m₂ = 8} h w.stands.shaped.few_stations) (omega arith)
+  cuts-within k m h l = le_trans (mul-le-mul {n₂ = 16} {m₂ = 8} h x.few_stations) (omega arith)
 
 -- The line of a listing is that of the answer which it gives.
 pub line-told : {a b : Answer} {r : ℕ} {was out : List ℕ} → a ≡ b → AtFront (answer_line a) r was out → AtFront (answer_line b) r was out

@@ -16,7 +16,7 @@ use Rattle.model.specs.Basis.{basis}
 use Rattle.lattice.proofs.Size.{basis-width, narrow_to}
 use Rattle.lattice.proofs.Held.{fits_to, width-held, barspace_fits}
 use Rattle.structure.specs.Layout.{standing}
-use Rattle.structure.specs.declared.Shape.{Shape}
+use Rattle.structure.specs.declared.Run.{Run}
 use Rattle.structure.specs.declared.Sets.{Sets}
 use Rattle.structure.proofs.Standing.{length-standing}
 use Rattle.token.specs.Contract.{Ready, Made}
@@ -24,17 +24,17 @@ use Rattle.listing.specs.Stands.{Stands}
 use Rattle.listing.specs.Worked.{Worked}
 use Rattle.question.specs.Questions.{Question}
 
-module _ {K : Computation} {f : Formula} {q : List ℕ} {shape : Shape} {starts values : List ℕ} (g : Question K f q shape starts values) where
+module _ {K : Computation} {f : Formula} {run : Run} {q : List ℕ} (g : Question K f run q) where
   spelt : q ≡ prefix f ++ []
   spelt = g.spells ∙ sym (append-nil (prefix f))
 
   -- The cells forecast are those of the structures held.
-  cells-held : (forecast K f).cells ≡ held (as_true f) * ((shape.e + 1) * shape.n)
+  cells-held : (forecast K f).cells ≡ held (as_true f) * ((run.x.e + 1) * run.x.n)
   unfolding forecast
   cells-held = rw (g.laid.0.stationed, g.laid.0.counted) (omega arith)
 
   -- There is room.
-  pub room : (ws bs : ℕ) → (forecast K f).cells ≤ ws → barspace_size ≤ bs → Ready true shape q starts values ws bs
+  pub room : (ws bs : ℕ) → (forecast K f).cells ≤ ws → barspace_size ≤ bs → Ready true run q ws bs
   room ws bs h k =
       record {
         computation = K;
@@ -47,40 +47,39 @@ module _ {K : Computation} {f : Formula} {q : List ℕ} {shape : Shape} {starts 
         works = g.works;
         short = (fits_to f g.fitting).0;
         cells_fit = rw cells-held at h;
-        bars_fit = le_trans (barspace_fits f g.fitting shape.n g.laid.0.shaped.few_stations) k;
+        bars_fit = le_trans (barspace_fits f g.fitting run.x.n run.x.few_stations) k;
       }
 
   -- THE BASIS
 
-  module _ {sets : Sets} {used sum : ℕ} {ws bs : List ℕ} (w : Made true shape q starts values sets used sum ws bs) where
+  module _ {sets : Sets} {used sum : ℕ} {ws bs : List ℕ} (w : Made true run q sets used sum ws bs) where
     abbrev count : ℕ
     count = sets.count
 
-    is_basis : standing shape.n (full K) count ws bs ≡ basis K (as_true f)
+    is_basis : standing run.x.n (full K) count ws bs ≡ basis K (as_true f)
     is_basis = w.stands K f [] g.laid spelt
 
     pub count-few : count ≤ 16
-    count-few = omega (arith, length-standing shape.n (full K) count ws bs, ap length is_basis, basis-width K (as_true f), (narrow_to (as_true f) (fits_to f g.fitting).2).0)
+    count-few = omega (arith, length-standing run.x.n (full K) count ws bs, ap length is_basis, basis-width K (as_true f), (narrow_to (as_true f) (fits_to f g.fitting).2).0)
 
     count_held : count ≤ held (as_true f)
-    count_held = omega (arith, length-standing shape.n (full K) count ws bs, ap length is_basis, basis-width K (as_true f), width-held (as_true f))
+    count_held = omega (arith, length-standing run.x.n (full K) count ws bs, ap length is_basis, basis-width K (as_true f), width-held (as_true f))
 
-    pub stands : (forecast K f).cells ≤ length ws → barspace_size ≤ length bs → Stands shape count ws bs
+    pub stands : (forecast K f).cells ≤ length ws → barspace_size ≤ length bs → Stands run.x count ws bs
     stands h b = record {
-      shaped = g.laid.0.shaped;
-      cells_fit = le_trans (mul-le-mul_right ((shape.e + 1) * shape.n) count_held) (rw cells-held at h);
-      bars_fit = le_trans (mul-le-mul {n₂ = 16} {m₂ = 128} count-few (omega (arith, g.laid.0.shaped.few_stations))) (omega arith);
+      cells_fit = le_trans (mul-le-mul_right ((run.x.e + 1) * run.x.n) count_held) (rw cells-held at h);
+      bars_fit = le_trans (mul-le-mul {n₂ = 16} {m₂ = 128} count-few (omega (arith, run.x.few_stations))) (omega arith);
       least_there = w.least;
     }
 
     -- It is worked out.
-    pub worked : Stands shape count ws bs → Worked K f shape count sum ws bs
+    pub worked : Stands run.x count ws bs → Worked K f run.x count sum ws bs
     worked s = record {
       stands = s;
       valid = g.laid.0.valid;
       stationed = g.laid.0.stationed;
       counts_are = g.laid.0.counts_are;
-      is_basis = ap (λ (l : List ℕ). standing shape.n l count ws bs) g.laid.0.counts_are ∙ is_basis;
+      is_basis = ap (λ (l : List ℕ). standing run.x.n l count ws bs) g.laid.0.counts_are ∙ is_basis;
       summed = w.counted K f [] g.laid spelt;
       few = count-few;
     }

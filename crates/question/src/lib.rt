@@ -12,22 +12,15 @@ ghost use Rattle.line.specs.AtFront.{AtFront};
 ghost use Rattle.question.specs.Questions.{Question};
 
 use model::Log;
-use structure::Shape;
+use structure::{Run, Shape};
 
 // Works the question's basis out, which then stands at the front of the workspace and the bar space.
-pub fn work_out(
-    q: &[u8],
-    x: Shape,
-    starts: &[u8],
-    facts: &[u16],
-    ws: &mut [u8],
-    bs: &mut [u8],
-) -> token::Basis
-    requires question { (K : Computation) × (f : Formula) × Question K f q.now x starts.now facts.now × ((forecast K f).cells ≤ length ws.old) }
+pub fn work_out(q: &[u8], run: &Run<'_>, ws: &mut [u8], bs: &mut [u8]) -> token::Basis
+    requires question { (K : Computation) × (f : Formula) × Question K f run.now q.now × ((forecast K f).cells ≤ length ws.old) }
     requires barspace_size_in_bounds { barspace_size ≤ length bs.old }
-    ensures { (K : Computation) (f : Formula) → Question K f q.now x starts.now facts.now → Worked K f x result.sets.count result.rounds ws.new bs.new }
+    ensures { (K : Computation) (f : Formula) → Question K f run.now q.now → Worked K f run.now.x result.sets.count result.rounds ws.new bs.new }
 {
-    basis::basis_true(q, ws, bs, x, starts, facts)
+    basis::basis_true(q, ws, bs, run)
 }
 
 // Is the question whose basis was worked out true at a cut of n counts?
@@ -36,45 +29,31 @@ pub fn belongs(ws: &[u8], bs: &[u8], basis: token::Basis, x: Shape, cut: &[u8]) 
     requires cut_len { length cut.now ≡ x.n }
     ensures { (K : Computation) (f : Formula) → Worked K f x basis.sets.count basis.rounds ws.now bs.now → result ≡ true_at K f cut.now }
 {
-    let n = x.n;
-    let at = cells::cut_at(cut, 0, n);
+    let at = cells::cut_at(cut, 0, x.n);
     listing::belongs_any(ws, bs, basis.sets.count, x, &at)
 }
 
 // The answer's line at the front of `out`; hands back its length.
-pub fn put_line(
-    q: &[u8],
-    x: Shape,
-    starts: &[u8],
-    facts: &[u16],
-    ws: &mut [u8],
-    bs: &mut [u8],
-    out: &mut [u8],
-) -> usize
-    requires question { (K : Computation) × (f : Formula) × Question K f q.now x starts.now facts.now × ((forecast K f).cells ≤ length ws.old) }
-    requires barspace_size_in_bounds { (barspace_size ≤ length bs.old) × (line_size ≤ length out.old) }
-    ensures { (K : Computation) (f : Formula) → Question K f q.now x starts.now facts.now → AtFront (answer_line (answer K f)) result out.old out.new }
+pub fn put_line(q: &[u8], run: &Run<'_>, ws: &mut [u8], bs: &mut [u8], out: &mut [u8]) -> usize
+    requires question { (K : Computation) × (f : Formula) × Question K f run.now q.now × ((forecast K f).cells ≤ length ws.old) }
+    requires bars_fit { barspace_size ≤ length bs.old }
+    requires line_fits { line_size ≤ length out.old }
+    ensures { (K : Computation) (f : Formula) → Question K f run.now q.now → AtFront (answer_line (answer K f)) result out.old out.new }
 {
-    let basis = work_out(q, x, starts, facts, ws, bs);
+    let basis = work_out(q, run, ws, bs);
+    let x = run.x;
     let mut cuts = [0u8; Log::CUTS];
     let listed = listing::list(ws, bs, basis.sets.count, x, basis.rounds, &mut cuts);
     line::put_answer(listed.start, &cuts, listed.count, x.n, listed.rounds, out)
 }
 
 // Is the question true at a cut of n counts?
-pub fn true_at(
-    q: &[u8],
-    x: Shape,
-    starts: &[u8],
-    facts: &[u16],
-    cut: &[u8],
-    ws: &mut [u8],
-    bs: &mut [u8],
-) -> bool
-    requires question { (K : Computation) × (f : Formula) × Question K f q.now x starts.now facts.now × ((forecast K f).cells ≤ length ws.old) }
-    requires cut_len { (length cut.now ≡ x.n) × (barspace_size ≤ length bs.old) }
-    ensures { (K : Computation) (f : Formula) → Question K f q.now x starts.now facts.now → result ≡ true_at K f cut.now }
+pub fn true_at(q: &[u8], run: &Run<'_>, cut: &[u8], ws: &mut [u8], bs: &mut [u8]) -> bool
+    requires question { (K : Computation) × (f : Formula) × Question K f run.now q.now × ((forecast K f).cells ≤ length ws.old) }
+    requires cut_len { length cut.now ≡ run.now.x.n }
+    requires bars_fit { barspace_size ≤ length bs.old }
+    ensures { (K : Computation) (f : Formula) → Question K f run.now q.now → result ≡ true_at K f cut.now }
 {
-    let basis = work_out(q, x, starts, facts, ws, bs);
-    belongs(ws, bs, basis, x, cut)
+    let basis = work_out(q, run, ws, bs);
+    belongs(ws, bs, basis, run.x, cut)
 }

@@ -20,6 +20,7 @@ fn silent(a: Aspect, v: u16) -> bool
 }
 
 // Is a number from lo to hi? Where lo is above hi the range goes through zero.
+#[tactic(auto, unfolding(model::specs::Atom::within, model::specs::Lists::between))]
 fn within(lo: u16, hi: u16, v: u16) -> bool
     ensures { result ≡ within lo hi v }
 {
@@ -45,6 +46,7 @@ fn test(a: Aspect, lo: u16, hi: u16, v: u16) -> Finding
 }
 
 // Does a value, or a panel, pass a range, as true or as false?
+#[tactic(auto, unfolding(model::specs::Atom::passes, model::specs::Atom::is_inside, model::specs::Atom::is_outside))]
 pub fn passes(sign: bool, a: Aspect, lo: u16, hi: u16, v: u16) -> bool
     ensures { result ≡ passes sign a lo hi v }
 {

@@ -26,8 +26,8 @@ module _ (K : Computation) (shape : Shape) (starts : List ℕ) (laid : Laid K sh
   pub clear_tabled : Tabled shape.n shape.e i (get_or shape.offs j 0) table (length starts)
   clear_tabled = record {
     station = hi;
-    few_stations = laid.shaped.few_stations;
-    few_events = laid.shaped.few_events;
+    few_stations = shape.few_stations;
+    few_events = shape.few_events;
     before = omega (arith, own-fit K shape starts laid j hj);
     starts_fit = laid.starts_fit;
     reach = λ k a f. omega (arith, t.reach k a f, own-fit K shape starts laid j hj, count-is K shape starts laid j hj);

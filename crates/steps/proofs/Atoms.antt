@@ -1,6 +1,6 @@
 -- The rows that a table leads to are those of an atom's raising function, for an atom that looks for an event of its station by a test;
 -- and with rows that are those of a raising function the structure stands that is built of it.
-use mathlib.Core.Path.{◌≡◌, refl, sym, ap, ap₂, ◌∙◌}
+use mathlib.Core.Path.{◌≡◌, refl, sym, ap, ap₂, subst, ◌∙◌}
 use mathlib.Core.Logic.{◌⊎◌, inl, inr, ⊎_elim}
 use Prim.Native.Nat.{ℕ, zero, suc, ◌+◌, ◌-◌, ◌*◌, ◌≤◌, ◌<◌, max}
 use native.Mathlib.Omega.{arith}
@@ -77,7 +77,7 @@ module _ (K : Computation) (shape : Shape) (starts : List ℕ) (laid : Laid K sh
   pub row_leads : (i : ℕ) → i ≤ shape.e → (o : Option ℕ) → ((k : ℕ) → o ≡ some k → k ≤ count K s) → (t : ℕ) → t ≡ coded o
       → decoded (joined_row shape.n (get_or shape.offs s 0) starts i t) ≡ up_to K s (row_at shape.n i starts) o
   unfolding coded joined_row up_to
-  row_leads i a none f t e = rw (eq-eqb t 255 e) (decoded-none (absent shape.n) (get_or-replicate shape.n 0 255 0 laid.shaped.some_station))
+  row_leads i a none f t e = rw (eq-eqb t 255 e) (decoded-none (absent shape.n) (get_or-replicate shape.n 0 255 0 shape.some_station))
   row_leads i a (some k) f t e =
       let c : Cut = row_at shape.n i starts in
       let l : k ≤ count K s = f k refl in
@@ -91,27 +91,31 @@ module _ (K : Computation) (shape : Shape) (starts : List ℕ) (laid : Laid K sh
     pub tabled : Tabled shape.n shape.e s (get_or shape.offs s 0) table (length starts)
     tabled = record {
       station = h;
-      few_stations = laid.shaped.few_stations;
-      few_events = laid.shaped.few_events;
+      few_stations = shape.few_stations;
+      few_events = shape.few_events;
       before = omega (arith, own-fit K shape starts laid s h);
       starts_fit = laid.starts_fit;
       reach = λ k a f. ⊎_elim (λ r. absurd (f (tab k a ∙ r.0))) (λ r. omega (arith, tab k a, r.1, r.2, own-fit K shape starts laid s h)) (entry_place q (get_or shape.counts s 0) k);
     }
 
+    -- How many events of the station start i has.
+    start-has : (i : ℕ) → row_at shape.n i starts ! s ≡ get_or starts (i * shape.n + s) 0
+    start-has i = get_or-take shape.n (drop (i * shape.n) starts) s 0 h ∙ get_or-drop (i * shape.n) starts s 0
+
     raise-is : (i : ℕ) → raise_to K s p (row_at shape.n i starts)
         ≡ up_to K s (row_at shape.n i starts) (next q (suc (get_or shape.counts s 0) - get_or starts (i * shape.n + s) 0) (get_or starts (i * shape.n + s) 0))
     unfolding raise_to
     raise-is i =
-        let x : row_at shape.n i starts ! s ≡ get_or starts (i * shape.n + s) 0 = get_or-take shape.n (drop (i * shape.n) starts) s 0 h ∙ get_or-drop (i * shape.n) starts s 0 in
-        ap₂ (λ (y z : ℕ). up_to K s (row_at shape.n i starts) (next p (suc z - y) y)) x (sym (count-is K shape starts laid s h))
+        ap₂ (λ (y z : ℕ). up_to K s (row_at shape.n i starts) (next p (suc z - y) y)) (start-has i) (sym (count-is K shape starts laid s h))
         ∙ ap (up_to K s (row_at shape.n i starts))
         (next_same p q (suc (get_or shape.counts s 0) - get_or starts (i * shape.n + s) 0) (get_or starts (i * shape.n + s) 0) (λ j u v. same j (omega arith)))
 
-    pub leads : ((i : ℕ) → get_or starts (i * shape.n + s) 0 < 256) → Leads shape.n shape.e s (get_or shape.offs s 0) table starts (raise_to K s p)
+    pub leads : Leads shape.n shape.e s (get_or shape.offs s 0) table starts (raise_to K s p)
     unfolding atom_row entry
-    leads byte i a =
+    leads i a =
         let x : ℕ = get_or starts (i * shape.n + s) 0 in
-        row_leads i a (next q (suc (get_or shape.counts s 0) - x) x) (λ k e. omega (arith, entry-within q (get_or shape.counts s 0) x k e, count-is K shape starts laid s h)) (get_or table x 0) (tab x (byte i))
+        let byte : x < 256 = omega (arith, (start-consistent K shape starts laid i a).within s, start-has i, events-few K shape starts laid s) in
+        row_leads i a (next q (suc (get_or shape.counts s 0) - x) x) (λ k e. omega (arith, entry-within q (get_or shape.counts s 0) x k e, count-is K shape starts laid s h)) (get_or table x 0) (tab x byte)
         ∙ sym (raise-is i)
 
 -- THE STRUCTURE
@@ -127,3 +131,7 @@ module _ (K : Computation) (shape : Shape) (starts : List ℕ) (laid : Laid K sh
   atom_kept z y =
       rw (no_bars shape.n bs y)
       (sym (build-there K shape starts laid f w (λ i a. ap decoded (rows i a) ∙ lead i a) [] z ∙ keep_free _ _))
+
+-- What is so of the sizes of a shape is so of the same sizes by themselves.
+pub at_sizes : (P : ℕ → ℕ → Type 0) (x : Shape) (n e : ℕ) → x.n ≡ n → x.e ≡ e → P x.n x.e → P n e
+at_sizes P x n e en ee p = subst (λ d. P n d) ee (subst (λ m. P m x.e) en p)

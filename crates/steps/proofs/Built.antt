@@ -121,12 +121,12 @@ module _ (K : Computation) (shape : Shape) (starts : List ℕ) (laid : Laid K sh
 
     pub build-empty : (bars : List Cut) → get_or w 0 0 ≡ 255 → build K f bars ≡ []
     unfolding build build_on
-    build-empty bars h = rw (least-is, decoded-none (take shape.n w) (get_or-take shape.n w 0 0 laid.shaped.some_station ∙ h))
+    build-empty bars h = rw (least-is, decoded-none (take shape.n w) (get_or-take shape.n w 0 0 shape.some_station ∙ h))
 
     pub build-there : (bars : List Cut) → (get_or w 0 0 ≡ 255 → ⊥)
         → build K f bars ≡ keep (record { least = take shape.n w; rows = stations_at shape.n (full K) (drop shape.n w); bars = bars })
     unfolding build build_on
-    build-there bars h = rw (least-is, decoded-some (take shape.n w) (λ g. h (sym (get_or-take shape.n w 0 0 laid.shaped.some_station) ∙ g)), rows_are)
+    build-there bars h = rw (least-is, decoded-some (take shape.n w) (λ g. h (sym (get_or-take shape.n w 0 0 shape.some_station) ∙ g)), rows_are)
 
 -- With no bars nothing is dropped.
 pub keep_free : (c : Cut) (r : List (List (Option Cut))) → keep (record { least = c; rows = r; bars = [] }) ≡ record { least = c; rows = r; bars = [] } ∷ []

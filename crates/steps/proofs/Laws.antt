@@ -8,7 +8,7 @@ use mathlib.Core.List.{List, ◌∷◌}
 use mathlib.Core.Bool.{Bool, true, false}
 use lib.Dec.{eqb}
 use lib.ListN.{length, get_or, take, drop, set, replicate, length-drop, length-replicate, get_or-replicate}
-use lib.Seq.{length-take-le, take_all, take-take, get_or-take, get_or-drop, get_or-set_same, get_or-set_other, paste}
+use lib.Seq.{length-take-le, take-take, get_or-take, get_or-drop, get_or-set_same, get_or-set_other, paste}
 use borrow.Author.Tests.{eq-eqb, ne_eqb}
 use Rattle.model.specs.Cut.{join}
 use Rattle.model.specs.Atom.{next}
@@ -32,18 +32,6 @@ pub parts-length : (s : List ℕ) (a b n : ℕ) → a + n ≤ length s → b + n
 parts-length s a b n h k =
     omega (arith, length-join (take n (drop a s)) (take n (drop b s)), length-take-le n (drop a s) (omega (arith, length-drop a s)), length-take-le n (drop b s) (omega (arith, length-drop b s)))
 
-module _ (d d₂ : List ℕ) (at : ℕ) (s : List ℕ) (a b : ℕ) where
-  -- The join of len cells of s from a on with those from b on, written at a place.
-  abbrev Joined : ℕ → Type 0
-  Joined len = d₂ ≡ paste d at (join (take len (drop a s)) (take len (drop b s))) len
-
-  -- Eight cells that were read, joined with the others and copied.
-  pub eight-joined : (t t₂ : List ℕ) → take 8 t ≡ take 8 (drop a s) → length t ≡ 8 → t₂ ≡ join t (take 8 (drop b s)) → d₂ ≡ paste d at t₂ 8 → Joined 8
-  eight-joined t t₂ e l f g = let u : t ≡ take 8 (drop a s) = sym (take_all 8 t (omega arith)) ∙ e in rw (g, f, u)
-
-  pub eight_are : (len : ℕ) → len ≡ 8 → Joined 8 → Joined len
-  eight_are len e g = rw e g
-
 take_none : (n w : ℕ) → n ≤ w → take n (replicate w 255) ≡ absent n
 take_none zero w h = refl
 take_none (suc n) zero h = absurd (omega arith)
@@ -56,25 +44,30 @@ pub entry_past : (p : ℕ → Bool) (m k : ℕ) → m < k → entry p m k ≡ 25
 unfolding entry next coded
 entry_past p m k h = let e : suc m - k ≡ 0 = omega arith in rw e
 
-pub entry_hit : (p : ℕ → Bool) (m k : ℕ) → k ≤ m → p k ≡ true → k ≡ entry p m k
-unfolding entry next coded
-entry_hit p m k h t = let e : suc m - k ≡ suc (m - k) = omega arith in rw (e, t)
+-- A turn of the loop that fills a table from its end: what is tested at k is the test at i, and w is what is written at i.
+module _ (p : ℕ → Bool) (m k i : ℕ) (at : i ≡ k) (h : k ≤ m) where
+  pub entry_hit : p i ≡ true → k ≡ entry p m k
+  unfolding entry next coded
+  entry_hit t =
+      let e : suc m - k ≡ suc (m - k) = omega arith in
+      let u : p k ≡ true = rw (← at) t in
+      rw (e, u)
 
-pub entry_miss : (p : ℕ → Bool) (m k : ℕ) → k ≤ m → p k ≡ false → entry p m (k + 1) ≡ entry p m k
-unfolding entry next coded
-entry_miss p m k h t =
-    let e : suc m - k ≡ suc (m - k) = omega arith in
-    let f : suc m - suc k ≡ m - k = omega arith in
-    rw (add-one k, e, f, t)
+  pub entry_miss : p i ≡ false → entry p m (k + 1) ≡ entry p m k
+  unfolding entry next coded
+  entry_miss t =
+      let e : suc m - k ≡ suc (m - k) = omega arith in
+      let f : suc m - suc k ≡ m - k = omega arith in
+      let u : p k ≡ false = rw (← at) t in
+      rw (add-one k, e, f, u)
 
--- A turn of the loop that fills a table from its end: w is what is written at k.
-pub table_more : (g : ℕ → ℕ) (t : List ℕ) (k w : ℕ) → length t ≡ 256 → k < 256 → w ≡ g k
-    → ((j : ℕ) → k + 1 ≤ j → j < 256 → get_or t j 0 ≡ g j) → (j : ℕ) → k ≤ j → j < 256 → get_or (set t k w) j 0 ≡ g j
-table_more g t k w l h e f j a b = go (eqb j k) refl
-  where
-    go : (x : Bool) → eqb j k ≡ x → get_or (set t k w) j 0 ≡ g j
-    go true q = let r : j ≡ k = borrow.Author.Tests.eqb-true j k q in rw r (get_or-set_same t k w 0 (omega arith) ∙ e)
-    go false q = let r = borrow.Author.Tests.eqb-false j k q in get_or-set_other t k j w 0 r ∙ f j (omega arith) b
+  pub table_turn : (t : List ℕ) (w : ℕ) → m < 256 → length t ≡ 256 → w ≡ entry p m k
+      → ((j : ℕ) → k < j → j < 256 → get_or t j 0 ≡ entry p m j) → (j : ℕ) → k ≤ j → j < 256 → get_or (set t i w) j 0 ≡ entry p m j
+  table_turn t w b l e f j a c = go (eqb j k) refl
+    where
+      go : (x : Bool) → eqb j k ≡ x → get_or (set t i w) j 0 ≡ entry p m j
+      go true q = let r : j ≡ k = borrow.Author.Tests.eqb-true j k q in rw (at, r) (get_or-set_same t k w 0 (omega arith) ∙ e)
+      go false q = let r = borrow.Author.Tests.eqb-false j k q in rw at (get_or-set_other t k j w 0 r ∙ f j (omega arith) c)
 
 pub table-start : (j : ℕ) → j < 256 → ◌≡◌ {A = ℕ} (get_or (replicate 256 255) j 0) 255
 table-start j h = get_or-replicate 256 j 255 0 h

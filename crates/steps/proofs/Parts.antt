@@ -57,9 +57,6 @@ module _ (at k n : ℕ) (b : List ℕ) where
         behind = drop-set-lt (at + k * n + 1) b (at + k * n) 255 (omega arith);
       }
 
-  pub ended_full : (k < 16 → ⊥) → Ended at k n b b
-  ended_full h = record { front = refl; ends = λ g. absurd (h g); behind = refl }
-
 -- SIZES
 
 -- A structure's cells are few.

@@ -1,6 +1,6 @@
 -- 01 and 08: a table of the values, or panels, that stand there leads to the rows of the raising function.
 use mathlib.Core.Path.{◌≡◌, sym, ap, ◌∙◌}
-use Prim.Native.Nat.{ℕ, ◌+◌, ◌*◌, ◌≤◌, ◌<◌}
+use Prim.Native.Nat.{ℕ, ◌+◌, ◌≤◌, ◌<◌}
 use native.Mathlib.Omega.{arith}
 use mathlib.Core.List.{List}
 use mathlib.Core.Bool.{Bool}
@@ -25,7 +25,7 @@ aspect_low Panel = omega arith
 module _ (K : Computation) (shape : Shape) (starts : List ℕ) (laid : Laid K shape starts) (s : ℕ) (h : s < shape.n)
     (values : List ℕ) (facts : Facts K shape values) (a : Aspect) (at : ℕ) (begins : at ≡ aspect_at a) where
   pub values_fit : at + get_or shape.offs s 0 + s + get_or shape.counts s 0 < length values
-  values_fit = omega (arith, own-fit K shape starts laid s h, aspect_low a, facts.filed.fit, laid.shaped.few_events, laid.shaped.few_stations)
+  values_fit = omega (arith, own-fit K shape starts laid s h, aspect_low a, facts.filed.fit, shape.few_events, shape.few_stations)
 
   module _ (b : Bool) (lo hi : ℕ) (table : List ℕ)
       (tab : (k : ℕ) → k < 256 → get_or table k 0 ≡ entry (λ j. passes b a lo hi (get_or values (at + get_or shape.offs s 0 + s + j) 0)) (get_or shape.counts s 0) k) where
@@ -44,6 +44,6 @@ module _ (K : Computation) (shape : Shape) (starts : List ℕ) (laid : Laid K sh
     pub range_tabled : Tabled shape.n shape.e s (get_or shape.offs s 0) table (length starts)
     range_tabled = atoms.tabled K shape starts laid s h looked found found_same table tab
 
-    pub range_leads : ((i : ℕ) → get_or starts (i * shape.n + s) 0 < 256) → Leads shape.n shape.e s (get_or shape.offs s 0) table starts (raise_atom K b (in_range a s lo hi))
+    pub range_leads : Leads shape.n shape.e s (get_or shape.offs s 0) table starts (raise_atom K b (in_range a s lo hi))
     unfolding raise_atom
     range_leads = atoms.leads K shape starts laid s h looked found found_same table tab

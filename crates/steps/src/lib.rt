@@ -11,12 +11,13 @@ ghost use Rattle.model.specs.Structure.{build};
 ghost use Rattle.model.specs.Atom.{passes, raise_atom};
 ghost use Rattle.model.specs.Atom.Atom.{in_range, clear};
 ghost use Rattle.structure.specs.Layout.{event_row, standing};
-ghost use Rattle.structure.specs.Laid.{Laid, aspect_at, Facts};
+ghost use Rattle.structure.specs.declared.Shape.{Shape};
+ghost use Rattle.structure.specs.Laid.{Laid, aspect_at, Given};
 ghost use Rattle.steps.specs.Rows.{row_at, entry, joined_row, atom_row, Tabled, Leads, Ended};
 
-use cells::{NONE, copy, fill, larger};
+use cells::{NONE, copy, fill};
 use model::{Aspect, Log};
-use structure::{Shape, event_row};
+use structure::{Run, Shape, event_row};
 
 // What is looked at of a station, and a range of it, ends included; through zero where lo is above hi.
 #[derive(Clone, Copy)]
@@ -46,10 +47,8 @@ fn join_cells(ws: &mut [u8], at: usize, src: &[u8], a: usize, b: usize, len: usi
         join_eight(ws, at, src, a, b);
         return;
     }
-    let mut i = 0;
-    while i < len {
-        ws[at + i] = larger(src[a + i], src[b + i]);
-        i += 1;
+    for i in 0..len {
+        ws[at + i] = src[a + i].max(src[b + i]);
     }
 }
 
@@ -73,45 +72,31 @@ fn aspect_at(a: Aspect) -> usize
     }
 }
 
-// The table of a station whose values, or panels, stand from at on: entry k is the first count from k on whose value passes, or 255.
-fn fill_table(
-    table: &mut [u8],
-    values: &[u16],
-    at: usize,
-    count: usize,
-    sign: bool,
-    a: Aspect,
-    lo: u16,
-    hi: u16,
-)
-    requires { (table.old ≡ replicate 256 255) × (count ≤ limits.events) × (at + count < length values.now) }
-    ensures { (k : ℕ) → k < 256 → get_or table.new k 0 ≡ entry (λ j. passes sign a lo hi (get_or values.now (at + j) 0)) count k }
+// The table of a station with count events whose values, or panels, stand from at on: entry k is the first count from k on whose value
+// passes, or 255.
+fn table_of(values: &[u16], at: usize, count: u8, r: Interval, sign: bool) -> [u8; 256]
+    requires { (count ≤ limits.events) × (at + count < length values.now) }
+    ensures { (k : ℕ) → k < 256 → get_or result k 0 ≡ entry (λ j. passes sign r.aspect r.lo r.hi (get_or values.now (at + j) 0)) count k }
 {
+    let mut table = [NONE; 256];
     let mut last = NONE;
-    let mut k = count + 1;
-    while 0 < k {
-        k -= 1;
-        if ranges::passes(sign, a, lo, hi, values[at + k]) {
-            last = k as u8;
+    for k in (0..=count).rev() {
+        let i = usize::from(k);
+        if ranges::passes(sign, r.aspect, r.lo, r.hi, values[at + i]) {
+            last = k;
         }
-        table[k] = last;
+        table[i] = last;
     }
+    table
 }
 
 // How many cells are written for a row: eight where there are as many from the last row on, so that each row is one operation.
-fn width(x: Shape, a: usize, b: usize) -> usize
-    requires { (x.n ≤ limits.stations) × (x.e ≤ limits.events) × ((x.e + 1) * x.n ≤ a) × ((x.e + 1) * x.n ≤ b) }
-    ensures { (x.n ≤ result) × (x.e * x.n + result ≤ a) × (x.e * x.n + result ≤ b) }
+fn width(n: usize, e: usize, a: usize, b: usize) -> usize
+    requires { (n ≤ limits.stations) × (e ≤ limits.events) × ((e + 1) * n ≤ a) × ((e + 1) * n ≤ b) }
+    ensures { (n ≤ result) × (e * n + result ≤ a) × (e * n + result ≤ b) }
 {
-    let n = x.n;
-    let last = x.e * n;
-    if a - last < 8 {
-        return n;
-    }
-    if b - last < 8 {
-        return n;
-    }
-    8
+    let last = e * n;
+    if a - last < 8 || b - last < 8 { n } else { 8 }
 }
 
 // Row i of an atom whose table names event k for it: w cells are written, those past the row for rows to come.
@@ -128,19 +113,23 @@ fn atom_row(ws: &mut [u8], i: usize, n: usize, w: usize, off: usize, k: u8, star
 }
 
 // The rows of an atom.
-fn atom_rows(ws: &mut [u8], x: Shape, s: usize, off: usize, table: &[u8; 256], starts: &[u8])
-    requires tabled { Tabled x.n x.e s off table.now (length starts.now) }
-    requires n_in_bounds { (x.e + 1) * x.n ≤ length ws.old }
-    ensures { (i : ℕ) → i ≤ x.e → row_at x.n i ws.new ≡ atom_row x.n s off table.now starts.now i }
+fn atom_rows(
+    ws: &mut [u8],
+    n: usize,
+    e: usize,
+    s: usize,
+    off: usize,
+    table: &[u8; 256],
+    starts: &[u8],
+)
+    requires tabled { Tabled n e s off table.now (length starts.now) }
+    requires fits { (e + 1) * n ≤ length ws.old }
+    ensures { (i : ℕ) → i ≤ e → row_at n i ws.new ≡ atom_row n s off table.now starts.now i }
 {
-    let e = x.e;
-    let n = x.n;
-    let w = width(x, ws.len(), starts.len());
-    let mut i = 0;
-    while i <= e {
-        let k = table[starts[i * n + s] as usize];
+    let w = width(n, e, ws.len(), starts.len());
+    for i in 0..=e {
+        let k = table[usize::from(starts[i * n + s])];
         atom_row(ws, i, n, w, off, k, starts);
-        i += 1;
     }
 }
 
@@ -149,76 +138,59 @@ fn atom_rows(ws: &mut [u8], x: Shape, s: usize, off: usize, table: &[u8; 256], s
 pub fn atom(
     ws: &mut [u8],
     bs: &mut [u8],
-    x: Shape,
+    n: usize,
+    e: usize,
     s: usize,
     off: usize,
     table: &[u8; 256],
     starts: &[u8],
 ) -> usize
-    requires tabled { Tabled x.n x.e s off table.now (length starts.now) }
-    requires n_in_bounds { ((x.e + 1) * x.n ≤ length ws.old) × (16 * x.n ≤ length bs.old) }
+    requires tabled { Tabled n e s off table.now (length starts.now) }
+    requires fits { ((e + 1) * n ≤ length ws.old) × (16 * n ≤ length bs.old) }
     ensures { (result ≤ 1) × (0 < result → get_or ws.new 0 0 ≡ 255 → ⊥)
-        × ((K : Computation) (f : Cut → Option Cut) → Laid K x starts.now → Leads x.n x.e s off table.now starts.now f
-        → standing x.n (full K) result ws.new bs.new ≡ build K f []) }
+        × ((x : Shape) (K : Computation) (f : Cut → Option Cut) → x.n ≡ n → x.e ≡ e → Laid K x starts.now → Leads n e s off table.now starts.now f
+        → standing n (full K) result ws.new bs.new ≡ build K f []) }
 {
-    atom_rows(ws, x, s, off, table, starts);
+    atom_rows(ws, n, e, s, off, table, starts);
     bs[0] = NONE;
     if ws[0] == NONE { 0 } else { 1 }
 }
 
 // 01 or 08, either sign: its table says which event of the station has the next value, or panel, that passes.
-pub fn range(
-    ws: &mut [u8],
-    bs: &mut [u8],
-    x: Shape,
-    starts: &[u8],
-    facts: &[u16],
-    r: Interval,
-    sign: bool,
-) -> usize
-    requires laid { (K : Computation) × Laid K x starts.now × Facts K x facts.now }
-    requires station_lt_n { (r.station < x.n) × ((x.e + 1) * x.n ≤ length ws.old) × (16 * x.n ≤ length bs.old) }
+pub fn range(ws: &mut [u8], bs: &mut [u8], run: &Run<'_>, r: Interval, sign: bool) -> usize
+    requires laid { (K : Computation) × Given K run.now }
+    requires station_lt_n { (r.station < run.now.x.n) × ((run.now.x.e + 1) * run.now.x.n ≤ length ws.old) × (16 * run.now.x.n ≤ length bs.old) }
     ensures { (result ≤ 1) × (0 < result → get_or ws.new 0 0 ≡ 255 → ⊥)
-        × ((K : Computation) → Laid K x starts.now → Facts K x facts.now
-        → standing x.n (full K) result ws.new bs.new ≡ build K (raise_atom K sign (in_range r.aspect r.station r.lo r.hi)) []) }
+        × ((K : Computation) → Given K run.now
+        → standing run.now.x.n (full K) result ws.new bs.new ≡ build K (raise_atom K sign (in_range r.aspect r.station r.lo r.hi)) []) }
 {
-    let a = r.aspect;
+    let Run { x, starts, facts } = *run;
+    let Shape { counts, offs, .. } = x;
     let s = r.station;
-    let counts = x.counts;
-    let offs = x.offs;
-    let off = offs[s] as usize;
-    let mut table = [NONE; 256];
-    fill_table(
-        &mut table,
-        facts,
-        aspect_at(a) + off + s,
-        counts[s] as usize,
-        sign,
-        a,
-        r.lo,
-        r.hi,
-    );
-    atom(ws, bs, x, s, off, &table, starts)
+    let off = usize::from(offs[s]);
+    let table = table_of(facts, aspect_at(r.aspect) + off + s, counts[s], r, sign);
+    atom(ws, bs, x.n, x.e, s, off, &table, starts)
 }
 
 // 07: its table says by which event of the receiver all is received that the sender has sent.
-pub fn clear(
-    ws: &mut [u8],
-    bs: &mut [u8],
-    x: Shape,
-    starts: &[u8],
-    facts: &[u16],
-    i: usize,
-    j: usize,
-) -> usize
-    requires laid { (K : Computation) × Laid K x starts.now × Facts K x facts.now }
-    requires i_lt_n { (i < x.n) × (j < x.n) × ((x.e + 1) * x.n ≤ length ws.old) × (16 * x.n ≤ length bs.old) }
+pub fn clear(ws: &mut [u8], bs: &mut [u8], run: &Run<'_>, i: usize, j: usize) -> usize
+    requires laid { (K : Computation) × Given K run.now }
+    requires i_lt_n { (i < run.now.x.n) × (j < run.now.x.n) × ((run.now.x.e + 1) * run.now.x.n ≤ length ws.old) × (16 * run.now.x.n ≤ length bs.old) }
     ensures { (result ≤ 1) × (0 < result → get_or ws.new 0 0 ≡ 255 → ⊥)
-        × ((K : Computation) → Laid K x starts.now → Facts K x facts.now
-        → standing x.n (full K) result ws.new bs.new ≡ build K (raise_atom K true (clear i j)) []) }
+        × ((K : Computation) → Given K run.now
+        → standing run.now.x.n (full K) result ws.new bs.new ≡ build K (raise_atom K true (clear i j)) []) }
 {
-    let offs = x.offs;
     let mut table = [0u8; 256];
-    arrivals::fill(&mut table, x, starts, facts, i, j);
-    atom(ws, bs, x, i, offs[j] as usize, &table, starts)
+    arrivals::fill(&mut table, run, i, j);
+    let x = run.x;
+    atom(
+        ws,
+        bs,
+        x.n,
+        x.e,
+        i,
+        usize::from(x.offs[j]),
+        &table,
+        run.starts,
+    )
 }

@@ -10,6 +10,9 @@ use lib.ListN.{length, get_or}
 use borrow.Author.Tests.{ltb-true}
 use Rattle.model.specs.declared.Aspect.{Aspect}
 use Rattle.model.specs.declared.Aspect.TheVariants.{Value, Panel}
+use Rattle.model.specs.declared.Token.{Token}
+use Rattle.model.specs.declared.Token.TheVariants as token
+use Rattle.model.specs.Codes.{token_byte}
 use Rattle.model.specs.Atom.{Atom, range_token, atom_bytes, sound_atom, askable}
 use Rattle.model.specs.Atom.Atom.{in_range, clear}
 use Rattle.lattice.proofs.Tests.{and-true}
@@ -42,8 +45,14 @@ range_same Value Panel e = absurd (omega arith)
 range_same Panel Value e = absurd (omega arith)
 range_same Panel Panel e = refl
 
--- An atom's token is a range's or 07.
-pub token-is : (a : Atom) → (get_or (atom_bytes a) 0 0 ≡ 1 → ⊥) → (get_or (atom_bytes a) 0 0 ≡ 7 → ⊥) → (get_or (atom_bytes a) 0 0 ≡ 8 → ⊥) → ⊥
+-- The token of an atom.
+pub token_of : (a : Atom) → (t : Token) × (token_byte t ≡ get_or (atom_bytes a) 0 0)
+unfolding atom_bytes
+token_of (in_range x s lo hi) = (token.Range x, refl)
+token_of (clear i j) = (token.Clear, refl)
+
+-- It is a range's or 07.
+token-is : (a : Atom) → (get_or (atom_bytes a) 0 0 ≡ 1 → ⊥) → (get_or (atom_bytes a) 0 0 ≡ 7 → ⊥) → (get_or (atom_bytes a) 0 0 ≡ 8 → ⊥) → ⊥
 unfolding atom_bytes
 token-is (in_range x s lo hi) f g h = range-token x f h
 token-is (clear i j) f g h = g refl

@@ -1,13 +1,11 @@
 -- The formula at the front of a question, by its token byte: what it is, and what stands behind the token.
 use mathlib.Core.Path.{◌≡◌, refl, sym, ap, subst, ◌∙◌}
 use mathlib.Core.Logic.{◌↔◌}
-use Prim.Native.Nat.{ℕ, zero, suc, ◌+◌, ◌*◌, ◌≤◌, ◌<◌}
+use Prim.Native.Nat.{ℕ, zero, suc, ◌*◌, ◌≤◌, ◌<◌}
 use native.Mathlib.Omega.{arith}
 use mathlib.Core.List.{List, ◌∷◌, ◌++◌, append_assoc}
-use mathlib.Core.Bool.{Bool, true, false, beq}
+use mathlib.Core.Bool.{Bool, true, false, beq, not as flip}
 use lib.ListN.{length, get_or, drop, length-append}
-use lib.Seq.{drop_at, drop-drop}
-use lib.Dec.{eqb}
 use Rattle.model.specs.Atom.{Atom, atom_bytes}
 use Rattle.model.specs.Formula.{Formula, prefix, weigh, tokens, signs}
 use Rattle.model.specs.Formula.Formula.{atom, not, and, or, possibly, always}
@@ -120,12 +118,6 @@ module _ (q : List ℕ) (f : Formula) (rest : List ℕ) (e : q ≡ prefix f ++ r
             ∙ append_assoc (prefix h.0) (prefix h.1) rest,
       )
 
--- Behind the first operand.
-pub second : (q : List ℕ) (u : ℕ) (a b : List ℕ) → drop 1 q ≡ a ++ b → u ≡ length a → drop (u + 1) q ≡ b
-second q u a b e h =
-    let c : u + 1 ≡ 1 + u = omega arith in
-    rw c (sym (drop-drop u 1 q) ∙ ap (drop u) e ∙ drop_at a b u (sym h))
-
 -- LENGTHS
 
 pub prefix-some : (f : Formula) → 0 < length (prefix f)
@@ -155,21 +147,13 @@ signs-tokens (or f g) = omega (arith, signs-tokens f, signs-tokens g)
 signs-tokens (possibly f) = omega (arith, signs-tokens f)
 signs-tokens (always f) = omega (arith, signs-tokens f)
 
--- THE MATCH
+-- THE TWO RULES
 
-pub two_arm : (x : ℕ) → (x ≡ 2 → ⊥) → 2 ≤ x → x < 5 → (b : Bool) × (x ≡ two_token b)
-two_arm zero g l h = absurd (omega arith)
-two_arm (suc zero) g l h = absurd (omega arith)
-two_arm (suc (suc zero)) g l h = absurd (g refl)
-two_arm (suc (suc (suc zero))) g l h = (true, refl)
-two_arm (suc (suc (suc (suc zero)))) g l h = (false, refl)
-two_arm (suc (suc (suc (suc (suc n))))) g l h = absurd (omega arith)
+-- "And" is for truth what "or" is for falsity.
+pub as-true : (b : Bool) → b ≡ beq b true
+as-true true = refl
+as-true false = refl
 
--- The flags that the code hands on.
-pub is-and : (x : ℕ) (b : Bool) → x ≡ two_token b → eqb x 3 ≡ beq b true
-is-and x true e = rw e
-is-and x false e = rw e
-
-pub is-or : (x : ℕ) (b : Bool) → x ≡ two_token b → eqb x 4 ≡ beq b false
-is-or x true e = rw e
-is-or x false e = rw e
+pub as-false : (b : Bool) → flip b ≡ beq b false
+as-false true = refl
+as-false false = refl

@@ -6,10 +6,10 @@ pub returns-then-barred : goal.returns-then-barred
 returns-then-barred c =
     let a = c.args in
     let p = c.requires in
-    laws.bar_dropped a.x a.count a.starts.now a.ws.now c.copy.new.ws a.bs.now c.bar_each.new.bs c.end_bars.new.bs p.shaped.some_station p.count_bound.0 p.count_bound.4 p.count_bound.5 p.present c.bar_each.ensures.0 c.end_bars.ensures c.copy.ensures c.greatest.new.out c.barred.result c.greatest.ensures c.barred.ensures c.if-barred.true
+    laws.bar_dropped a.x a.count a.starts.now a.ws.now c.copy.new.ws a.bs.now c.bar_each.new.bs c.end_bars.new.bs a.x.some_station p.fits.0 p.fits.4 p.fits.5 p.present c.bar_each.ensures.0 c.end_bars.ensures c.copy.ensures c.greatest-g.result c.barred.result c.greatest-g.ensures c.barred.ensures c.if-barred.true
 
 pub returns-else-barred : goal.returns-else-barred
 returns-else-barred c =
     let a = c.args in
     let p = c.requires in
-    laws.bar_kept a.x a.count a.starts.now a.ws.now c.copy.new.ws a.bs.now c.bar_each.new.bs c.end_bars.new.bs p.shaped.some_station p.count_bound.0 p.count_bound.4 p.count_bound.5 p.present c.bar_each.ensures.0 c.end_bars.ensures c.copy.ensures c.greatest.new.out c.barred.result c.greatest.ensures c.barred.ensures c.if-barred.false
+    laws.bar_kept a.x a.count a.starts.now a.ws.now c.copy.new.ws a.bs.now c.bar_each.new.bs c.end_bars.new.bs a.x.some_station p.fits.0 p.fits.4 p.fits.5 p.present c.bar_each.ensures.0 c.end_bars.ensures c.copy.ensures c.greatest-g.result c.barred.result c.greatest-g.ensures c.barred.ensures c.if-barred.false

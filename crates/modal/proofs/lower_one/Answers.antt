@@ -6,4 +6,4 @@ pub returns : goal.returns
 returns c =
     let a = c.args in
     let p = c.requires in
-    laws.lower_one a.x a.starts.now a.ws.now c.below_rows.new.ws a.bs.now _ p.shaped.some_station p.n_in_bounds.1 p.n_in_bounds.3 c.greatest.ensures c.below_rows.ensures.0 c.below_rows.ensures.1
+    laws.lower_one a.x a.starts.now a.ws.now c.below_rows.new.ws a.bs.now _ a.x.some_station p.1 p.3 c.greatest-g.ensures c.below_rows.ensures.0 c.below_rows.ensures.1

@@ -5,7 +5,7 @@ use Rattle.question.proofs.put_line.Goals as goal
 
 pub work_out-basis-requires : goal.work_out-basis-requires
 work_out-basis-requires c = let p = c.requires in
-    record { question = p.question; barspace_size_in_bounds = p.barspace_size_in_bounds.0 }
+    record { question = p.question; barspace_size_in_bounds = p.bars_fit }
 
 pub list-listed-requires : goal.list-listed-requires
 list-listed-requires c = record { worked = (_, _, c.work_out-basis.ensures _ _ c.requires.question.2); stations_in_bounds = search rules }
@@ -15,7 +15,7 @@ put_answer-requires c =
     let p = c.requires in
     let w = c.work_out-basis.ensures _ _ p.question.2 in
     let l = c.list-listed in
-    (l.ensures.0, w.stands.shaped.few_stations, cuts-within w _ _ l.ensures.0 l.auto.cuts, p.barspace_size_in_bounds.1)
+    (l.ensures.0, c.args.run.now.x.few_stations, cuts-within w _ _ l.ensures.0 l.auto.cuts, p.line_fits)
 
 pub returns : goal.returns
 returns c = λ K f g.

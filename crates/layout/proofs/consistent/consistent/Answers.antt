@@ -11,17 +11,13 @@ returns-then-cut-n c = λ K g. wrong_size _ g c.if-cut-n.true
 
 pub loop-j-init : goal.loop-j-init
 unfolding every
-loop-j-init c = (omega arith, λ K g. refl)
-
-pub known-requires : goal.known-requires
-known-requires c = let p = c.requires in
-    record { j_in_bounds = (omega arith, omega arith, p.n_le_stations.1); by_index = p.by_index }
+loop-j-init c = λ K g. refl
 
 pub returns-then-not-known : goal.returns-then-not-known
-returns-then-not-known c = λ K g. wrong-station _ g c.if-cut-n.false _ c.loop-j-test.true (known-not K _ _ _ _ c.wide-k.ensures.0 _ (c.known.ensures K (sized c.args.cut.now g c.if-cut-n.false)) (ap not c.if-not-known.true))
+returns-then-not-known c = λ K g. wrong-station _ g c.if-cut-n.false _ c.loop-j-test.true (known-not K _ _ _ _ c.from.ensures _ (c.known.ensures K (sized c.args.cut.now g c.if-cut-n.false)) (ap not c.if-not-known.true))
 
 pub loop-j-preserved : goal.loop-j-preserved
-loop-j-preserved c = (omega arith, λ K g. every_more _ _ (c.loop-j.invariant.1 K g) (known_yes K _ _ _ _ c.wide-k.ensures.0 _ (c.known.ensures K (sized c.args.cut.now g c.if-cut-n.false)) (ap not c.if-not-known.false)))
+loop-j-preserved c = λ K g. every_more _ _ (c.loop-j.invariant K g) (known_yes K _ _ _ _ c.from.ensures _ (c.known.ensures K (sized c.args.cut.now g c.if-cut-n.false)) (ap not c.if-not-known.false))
 
 pub returns : goal.returns
-returns c = λ K g. all_right _ g c.if-cut-n.false _ c.loop-j.invariant.0 c.loop-j-test.false (c.loop-j.invariant.1 K g)
+returns c = λ K g. all_right _ g c.if-cut-n.false _ c.loop-j.auto.j-end (omega arith) (c.loop-j.invariant K g)

@@ -9,4 +9,4 @@ pub returns : goal.returns
 returns c =
     let a = c.args in
     let l = c.lay_values in
-    each_laid l.new.values _ (a.x.e + a.x.n) (λ i. values_in (byte_of i) a.store.now a.x.counts a.x.n) (omega (arith, c.requires.shaped.few_events, c.requires.shaped.few_stations)) (omega (arith, c.requires.store_len, l.auto)) l.ensures c.lay_values-2.ensures
+    each_laid l.new.values _ (a.x.e + a.x.n) (λ i. values_in (byte_of i) a.store.now a.x.counts a.x.n) (omega (arith, a.x.few_events, a.x.few_stations)) (omega (arith, c.requires, l.auto)) l.ensures c.lay_values-2.ensures

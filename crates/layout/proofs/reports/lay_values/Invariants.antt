@@ -1,13 +1,13 @@
 -- The invariant: the values of the stations before j stand at the front. Assumes nothing.
 use mathlib.Core.Path.{◌≡◌}
-use Prim.Native.Nat.{◌+◌, ◌≤◌, ◌-◌}
+use Prim.Native.Nat.{◌+◌}
 use lib.ListN.{length, take}
 use Rattle.model.specs.Lists.{total}
 use Rattle.layout.specs.Rows.{values_in}
 use Rattle.layout.proofs.reports.lay_values.Given as goal
 
 abbrev pub invariant-loop-j : goal.invariant-loop-j
-invariant-loop-j l = (l.j ≤ l.n) × (length l.values ≡ length l.initial.values) × (take (total (take l.j (take l.n l.counts)) + l.j) l.values ≡ values_in l.b l.store l.counts l.j)
-
-abbrev pub decreases-loop-j : goal.decreases-loop-j
-decreases-loop-j l = l.n - l.j
+invariant-loop-j l = record {
+  long : length l.values ≡ length l.initial.values;
+  values : take (total (take l.j (take l.n l.counts)) + l.j) l.values ≡ values_in l.b l.store l.counts l.j;
+}

@@ -1,4 +1,5 @@
-use mathlib.Core.Path.{◌≡◌, refl}
+-- One more value behind those of the station. Assumes nothing.
+use mathlib.Core.Path.{refl}
 use Prim.Native.Nat.{◌+◌, ◌<◌}
 use native.Mathlib.Omega.{arith}
 use lib.ListN.{length, length-set}
@@ -8,16 +9,13 @@ use Rattle.layout.proofs.reports.station_values.Goals as goal
 
 pub loop-k-init : goal.loop-k-init
 unfolding values_of in_turn
-loop-k-init c = (omega arith, refl, none_yet c.args.values.now c.args.at)
+loop-k-init c = record { long = refl; values = none_yet c.args.values.now c.args.at }
 
 pub loop-k-preserved : goal.loop-k-preserved
 loop-k-preserved c =
     let a = c.args in
     let l = c.loop-k in
-    let h : a.at + l.k < length l.values = omega arith in
-    (omega arith, simp length-set l.invariant.1, value-more a.values.now l.values a.at a.b a.store.now a.j l.k c.slot-from.result c.word.result c.slot-from.ensures.0 c.word.ensures h l.invariant.2)
-
-pub returns : goal.returns
-returns c =
-    let e : c.loop-k.k ≡ c.args.m = omega arith in
-    rw e at c.loop-k.invariant.2
+    let h : a.at + l.k < length l.values = omega arith in record {
+      long = simp length-set l.invariant.long;
+      values = value-more a.values.now l.values a.at a.b a.store.now a.j l.k c.slot.result c.word.result c.slot.ensures.0 c.word.ensures h l.invariant.values;
+    }

@@ -1,4 +1,5 @@
-use mathlib.Core.Path.{◌≡◌, refl, ◌∙◌}
+-- One more clock behind those of the station. Assumes nothing.
+use mathlib.Core.Path.{refl, ◌∙◌}
 use Prim.Native.Nat.{◌+◌, ◌*◌, ◌≤◌}
 use native.Mathlib.Omega.{arith}
 use native.Mathlib.Nat.{zero-mul}
@@ -12,32 +13,17 @@ use Rattle.layout.proofs.starts.station_clocks.Goals.{In-loop-k}
 
 pub loop-k-init : goal.loop-k-init
 unfolding clocks_in in_turn
-loop-k-init c =
-    let a = c.args in
-    (omega arith, refl, rw (zero-mul a.n) (none_yet a.starts.now a.at))
+loop-k-init c = record { long = refl; clocks = rw (zero-mul c.args.n) (none_yet c.args.starts.now c.args.at) }
 
 fits-here : (c : In-loop-k) → c.args.at + c.loop-k.k * c.args.n + c.args.n ≤ length c.loop-k.starts
-fits-here c = omega (arith, next_fits c.loop-k.k c.args.m c.args.n c.loop-k-test.true, c.loop-k.invariant, c.requires)
-
-pub overflow_mul-k : goal.overflow_mul-k
-overflow_mul-k c = omega (arith, fits-here (goal.at.overflow_mul-k c).In-loop-k)
-
-pub overflow_add-at : goal.overflow_add-at
-overflow_add-at c = omega (arith, fits-here (goal.at.overflow_add-at c).In-loop-k)
-
-pub copy-requires : goal.copy-requires
-copy-requires c =
-    (fits-here (goal.at.copy-requires c).In-loop-k, omega arith)
+fits-here c = omega (arith, next_fits c.loop-k.k c.args.m c.args.n c.loop-k-test.true, c.loop-k.invariant.long, c.requires)
 
 pub loop-k-preserved : goal.loop-k-preserved
 loop-k-preserved c =
     let a = c.args in
     let l = c.loop-k in
     let d = c.copy.new.ws in
-    let f = fits-here (goal.at.loop-k-preserved c).In-loop-k in
-    (omega arith, c.copy.auto.ws ∙ l.invariant.1, clock-more a.starts.now l.starts a.at a.store.now d a.n a.j l.k c.slot-from.result c.slot-from.ensures.0 l.invariant.2 (copied l.starts d a.store.now (a.at + l.k * a.n) (c.slot-from.result + stored_report) a.n f (omega arith) c.copy.ensures))
-
-pub returns : goal.returns
-returns c =
-    let e : c.loop-k.k ≡ c.args.m = omega arith in
-    rw e at c.loop-k.invariant.2
+    let f = fits-here (goal.at.loop-k-preserved c).In-loop-k in record {
+      long = c.copy.auto.ws ∙ l.invariant.long;
+      clocks = clock-more a.starts.now l.starts a.at a.store.now d a.n a.j l.k c.slot.result c.slot.ensures.0 l.invariant.clocks (copied l.starts d a.store.now (a.at + l.k * a.n) (c.slot.result + stored_report) a.n f (omega (arith, c.told-store)) c.copy.ensures);
+    }
