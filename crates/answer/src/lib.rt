@@ -5,34 +5,22 @@ ghost use Rattle.std.specs.Prelude.{◌≡◌, [], ◌∷◌, ℕ, ◌<◌, leng
 ghost use Rattle.model.specs.Limits.{limits};
 ghost use Rattle.model.specs.Formula.{Formula};
 ghost use Rattle.model.specs.Computation.{Computation};
-ghost use Rattle.model.specs.Reply.{gives, refuses, number, line_reply};
+ghost use Rattle.model.specs.Reply.{gives, line_reply};
 ghost use Rattle.model.specs.Operations.{Kept, answer_op};
 ghost use Rattle.model.specs.Promise.{Asked, Answered};
 
-use load::Acceptance;
-use model::{Fault, LineAnswer, Log};
+use model::{Fault, Log, Refusal};
 use opened::answer_one;
 use opening::{cramped, open_log};
 
-// A refusal where no one line is at fault.
-fn refused(fault: Fault) -> LineAnswer
-    ensures { line_reply result ≡ refuses (number fault) 0 }
-{
-    let refusal = model::Refusal {
-        fault: fault,
-        line: 0,
-    };
-    LineAnswer::Refused(refusal)
-}
-
-// Answer: the line that answers a question of a log, at the front of `out`.
+// Answer: the line that answers a question of a log, at the front of `out`; hands back its length.
 pub fn answer(
     log: &[u8],
     question: usize,
     ws: &mut [u8],
     bs: &mut [u8],
     out: &mut [u8],
-) -> LineAnswer
+) -> Result<usize, Refusal>
     ensures result_value { line_reply result ≡ (answer_op limits log.now question (length ws.old) (length bs.old) out.old).reply }
     ensures out_after { out.new ≡ (answer_op limits log.now question (length ws.old) (length bs.old) out.old).output }
     ensures kept { Kept (line_reply result) ws.old ws.new × Kept (line_reply result) bs.old bs.new }
@@ -40,21 +28,12 @@ pub fn answer(
 {
     let mut list = [0u8; Log::LIST];
     let mut store = [0u8; Log::STORE];
-    let loaded = open_log(limits::limits(), log, question, &mut list, &mut store);
-    let outcome = loaded.outcome;
-    match outcome {
-        Acceptance::Refused(refusal) => LineAnswer::Refused(refusal),
-        Acceptance::Accepted => {
-            let tight = cramped(&list, loaded, question, ws.len(), bs.len());
-            let short = out.len() < Log::LINE;
-            if tight {
-                return refused(Fault::Workspace);
-            }
-            if short {
-                return refused(Fault::Output);
-            }
-            let size = answer_one(&list, &store, loaded, question, ws, bs, out);
-            LineAnswer::Written(size)
-        }
+    let loaded = open_log(limits::limits(), log, question, &mut list, &mut store)?;
+    if cramped(&list, loaded, question, ws.len(), bs.len()) {
+        return Err(Fault::Workspace.into());
     }
+    if out.len() < Log::LINE {
+        return Err(Fault::Output.into());
+    }
+    Ok(answer_one(&list, &store, loaded, question, ws, bs, out))
 }

@@ -2,54 +2,43 @@
 #![tactic(auto)]
 
 ghost use Rattle.std.specs.Prelude.{◌≡◌, List, ℕ, ◌+◌, ◌*◌, ◌≤◌, ◌<◌, length};
-ghost use Rattle.model.specs.Limits.{limits, print_limits, store_size, workspace_size, barspace_size};
+ghost use Rattle.model.specs.Limits.{limits, print_limits, workspace_size, barspace_size};
 ghost use Rattle.model.specs.Formula.{Formula};
 ghost use Rattle.model.specs.Computation.{Computation};
 ghost use Rattle.model.specs.Forecast.{forecast};
-ghost use Rattle.structure.specs.Shaped.{Shaped};
 ghost use Rattle.load.specs.Loading.{Accepts};
 ghost use Rattle.question.specs.Questions.{Question};
 ghost use Rattle.opening.specs.Prepared.{Prepared};
 
-use host::write_bytes;
+use load::Loaded;
 use model::Log;
 use std::io;
-use structure::Shape;
+use structure::{Run, Shape};
+use table::Store;
+use trial::Shown;
 
-// The bars at a place.
-fn print_bars(rt: &HostRuntime, bs: &[u8], at: usize, n: usize) -> io::Result<()>
-    requires { (0 < n) × (n ≤ limits.stations) × (at + 16 * n ≤ length bs.now) }
+// The bars of a structure, up to the first that is none.
+fn print_bars(rt: &HostRuntime, bars: &[u8], n: usize) -> io::Result<()>
+    requires { (0 < n) × (n ≤ limits.stations) × (16 * n ≤ length bars.now) }
 {
-    let mut i = 0;
-    while i < 16 {
-        let from = at + i * n;
-        if bs[from] == cells::NONE {
-            return Ok(());
+    for bar in bars[..16 * n].chunks_exact(n) {
+        if bar.first() == Some(&cells::NONE) {
+            break;
         }
-        trial::print_line(rt, b"bar", &bs[from..from + n])?;
-        i += 1;
+        println!(rt; "bar{}", Shown(bar))?;
     }
     Ok(())
 }
 
-// The structure at a place of the workspace, with its bars.
-fn print_structure(
-    rt: &HostRuntime,
-    ws: &[u8],
-    at: usize,
-    bs: &[u8],
-    bar: usize,
-    x: Shape,
-) -> io::Result<()>
-    requires shaped { Shaped x }
-    requires n_in_bounds { (at + (x.e + 1) * x.n ≤ length ws.now) × (bar + 16 * x.n ≤ length bs.now) }
+// The structure at the front of the workspace, with its bars.
+fn print_structure(rt: &HostRuntime, ws: &[u8], bars: &[u8], x: Shape) -> io::Result<()>
+    requires { ((x.e + 1) * x.n ≤ length ws.now) × (16 * x.n ≤ length bars.now) }
 {
     let n = x.n;
-    trial::print_line(rt, b"least", &ws[at..at + n])?;
-    let mut greatest = [0u8; 8];
-    tops::greatest(ws, at, x, &mut greatest);
-    trial::print_line(rt, b"greatest", &greatest[0..n])?;
-    print_bars(rt, bs, bar, n)
+    println!(rt; "least{}", Shown(&ws[..n]))?;
+    let greatest = tops::greatest(ws, x);
+    println!(rt; "greatest{}", Shown(&greatest[..n]))?;
+    print_bars(rt, bars, n)
 }
 
 // The structures at the front of the workspace.
@@ -60,17 +49,13 @@ fn print_structures(
     count: usize,
     x: Shape,
 ) -> io::Result<()>
-    requires shaped { Shaped x }
     requires count_bound { (count ≤ 16) × (count * ((x.e + 1) * x.n) ≤ length ws.now) × (count * (16 * x.n) ≤ length bs.now) }
 {
-    let n = x.n;
-    let e = x.e;
-    let size = (e + 1) * n;
-    let slot = 16 * n;
-    let mut i = 0;
-    while i < count {
-        print_structure(rt, ws, i * size, bs, i * slot, x)?;
-        i += 1;
+    let size = (x.e + 1) * x.n;
+    let slot = 16 * x.n;
+    // By an index: two tables are read at one place.
+    for i in 0..count {
+        print_structure(rt, &ws[i * size..], &bs[i * slot..], x)?;
     }
     Ok(())
 }
@@ -79,71 +64,64 @@ fn print_structures(
 fn print_basis(
     rt: &HostRuntime,
     q: &[u8],
-    x: Shape,
-    starts: &[u8],
-    facts: &[u16],
+    run: &Run<'_>,
     ws: &mut [u8],
     bs: &mut [u8],
 ) -> io::Result<()>
-    requires question { (K : Computation) × (f : Formula) × Question K f q.now x starts.now facts.now × ((forecast K f).cells ≤ length ws.old) }
+    requires question { (K : Computation) × (f : Formula) × Question K f run.now q.now × ((forecast K f).cells ≤ length ws.old) }
     requires barspace_size_in_bounds { barspace_size ≤ length bs.old }
 {
-    let basis = question::work_out(q, x, starts, facts, ws, bs);
+    let basis = question::work_out(q, run, ws, bs);
     let count = basis.sets.count;
-    trial::print_count(rt, b"structures", count)?;
-    print_structures(rt, ws, bs, count, x)?;
-    trial::print_count(rt, b"rounds", basis.rounds as usize)
+    println!(rt; "structures {count}")?;
+    print_structures(rt, ws, bs, count, run.x)?;
+    println!(rt; "rounds {}", basis.rounds)
 }
 
 // The bases of all questions of a log that is laid out.
 fn print_questions(
     rt: &HostRuntime,
     list: &[u8],
-    loaded: load::Loaded,
-    x: Shape,
-    starts: &[u8],
-    facts: &[u16],
+    loaded: Loaded,
+    run: &Run<'_>,
     ws: &mut [u8],
     bs: &mut [u8],
 ) -> io::Result<()>
     requires length_in_bounds { (loaded.length ≤ length list.now) × (workspace_size ≤ length ws.old) × (barspace_size ≤ length bs.old) }
-    requires prepared { Prepared print_limits loaded list.now x starts.now facts.now }
+    requires prepared { Prepared print_limits loaded list.now run.now }
 {
-    let s = loaded.state;
-    let mut i = 0;
-    while i < s.questions {
+    for i in 0..loaded.state.questions {
         let q = opening::asked(list, loaded, i);
-        print_basis(rt, q, x, starts, facts, ws, bs)?;
-        i += 1;
+        print_basis(rt, q, run, ws, bs)?;
     }
     Ok(())
 }
 
 // The same for a log that is loaded.
-fn print_loaded(rt: &HostRuntime, list: &[u8], store: &[u8], loaded: load::Loaded) -> io::Result<()>
-    requires length_in_bounds { (loaded.length ≤ length list.now) × (length store.now ≡ store_size) }
+fn print_loaded(rt: &HostRuntime, list: &[u8], store: &Store, loaded: Loaded) -> io::Result<()>
+    requires length_in_bounds { loaded.length ≤ length list.now }
     requires accepts { (log : List ℕ) × Accepts print_limits log loaded.state loaded.length list.now store.now }
 {
     let mut starts = [0u8; Log::STARTS];
     let mut facts = [0u16; Log::FACTS];
     let x = opening::lay(store, loaded, &mut starts, &mut facts);
+    let run = Run {
+        x,
+        starts: &starts,
+        facts: &facts,
+    };
     let mut ws = [0u8; Log::WORKSPACE];
     let mut bs = [0u8; Log::BARSPACE];
-    print_questions(rt, list, loaded, x, &starts, &facts, &mut ws, &mut bs)
+    print_questions(rt, list, loaded, &run, &mut ws, &mut bs)
 }
 
 // The bases of a log, or its refusal.
 pub fn print_case(rt: &HostRuntime, log: &[u8]) -> io::Result<()> {
-    write_bytes(rt, b"\n")?;
+    println!(rt)?;
     let mut list = [0u8; Log::LIST];
     let mut store = [0u8; Log::STORE];
-    let loaded = load::load(limits::print_limits(), log, &mut list, &mut store);
-    let outcome = loaded.outcome;
-    match outcome {
-        load::Acceptance::Refused(refusal) => {
-            trial::print_refusal(rt, refusal)?;
-            write_bytes(rt, b"\n")
-        }
-        load::Acceptance::Accepted => { print_loaded(rt, &list, &store, loaded) }
+    match load::load(limits::print_limits(), log, &mut list, &mut store) {
+        Ok(loaded) => print_loaded(rt, &list, &store, loaded),
+        Err(unread) => println!(rt; "{}", Shown(unread.refusal)),
     }
 }

@@ -4,9 +4,10 @@
 #![tactic(auto)]
 
 use host::{read_input, write_bytes};
-use model::{ForecastAnswer, HoldsAnswer, LineAnswer, Log, ReadAnswer, WriteAnswer};
+use model::Log;
 use std::io;
-use trial::Case;
+use trial::{Case, Kept, Output, Shown};
+use walk::{Frame, Malformed};
 
 // The most that a case may lend as output.
 const OUTPUT: usize = Log::BYTES + 8;
@@ -20,35 +21,35 @@ const WORKSPACE: usize = Log::HELD * Log::STATIONS * (Log::EVENTS + 1);
 // Reads the log of a case.
 fn read_case(rt: &HostRuntime, log: &[u8], out: &mut [u8]) -> io::Result<()> {
     match op_read_write::read(log, out) {
-        ReadAnswer::Accepted(l) => trial::print_read(rt, l, out),
-        ReadAnswer::Refused(r) => trial::print_unwritten(rt, r, out),
+        Ok(read) => println!(rt; "{}{}", Shown(read), Output::of(out, read.list)),
+        Err(refusal) => println!(rt; "{}{}", Shown(refusal), Output::of(out, 0)),
     }
 }
 
 // Writes the frame list of a case.
 fn write_case(rt: &HostRuntime, list: &[u8], out: &mut [u8]) -> io::Result<()> {
     match op_read_write::write(list, out) {
-        WriteAnswer::Written(n) => trial::print_written(rt, n, out),
-        WriteAnswer::Refused(r) => trial::print_unwritten(rt, r, out),
+        Ok(len) => println!(rt; " {len}{}", Output::of(out, len)),
+        Err(refusal) => println!(rt; "{}{}", Shown(refusal), Output::of(out, 0)),
     }
 }
 
 // Merges the two logs of a case: `length` says in two bytes how many bytes the first has, and the second stands behind them.
 fn merge_case(rt: &HostRuntime, logs: &[u8], length: &[u8], out: &mut [u8]) -> io::Result<()> {
-    if length.len() != 2 {
+    let &[high, low] = length else {
         return Ok(());
-    }
-    let first = cells::word(length, 0) as usize;
-    if logs.len() < first {
+    };
+    let first = usize::from(u16::from_be_bytes([high, low]));
+    let Some((log, second)) = logs.split_at_checked(first) else {
         return Ok(());
-    }
-    match op_merge::merge(&logs[0..first], &logs[first..], out) {
-        WriteAnswer::Written(n) => trial::print_written(rt, n, out),
-        WriteAnswer::Refused(r) => trial::print_unwritten(rt, r, out),
+    };
+    match op_merge::merge(log, second, out) {
+        Ok(len) => println!(rt; " {len}{}", Output::of(out, len)),
+        Err(refusal) => println!(rt; "{}{}", Shown(refusal), Output::of(out, 0)),
     }
 }
 
-// Answers a question of the log.
+// Answers a question of the log: prints the line as it is.
 fn answer_case(
     rt: &HostRuntime,
     log: &[u8],
@@ -58,8 +59,12 @@ fn answer_case(
     out: &mut [u8],
 ) -> io::Result<()> {
     match answer::answer(log, question, ws, bs, out) {
-        LineAnswer::Written(n) => trial::print_answer(rt, n, out),
-        LineAnswer::Refused(r) => trial::print_unanswered(rt, r, ws, bs, out),
+        Ok(len) => {
+            let Output { written, kept } = Output::of(out, len);
+            println!(rt; "{kept}")?;
+            write_bytes(rt, written)
+        }
+        Err(refusal) => println!(rt; "{}{}", Shown(refusal), Kept::all(ws, bs, out)),
     }
 }
 
@@ -71,53 +76,53 @@ fn holds_case(
     cut: &[u8],
     ws: &mut [u8],
     bs: &mut [u8],
-    out: &mut [u8],
+    out: &[u8],
 ) -> io::Result<()> {
     match holds::holds(log, question, cut, ws, bs) {
-        HoldsAnswer::Yes => trial::print_truth(rt, true),
-        HoldsAnswer::No => trial::print_truth(rt, false),
-        HoldsAnswer::Refused(r) => trial::print_unanswered(rt, r, ws, bs, out),
+        Ok(true) => println!(rt; " yes"),
+        Ok(false) => println!(rt; " no"),
+        Err(refusal) => println!(rt; "{}{}", Shown(refusal), Kept::all(ws, bs, out)),
     }
 }
 
-// Walks over a line of the log: `line` says in two bytes each where it starts and how many bytes it has.
+// Walks over a line of the log: `line` says in two bytes each where it starts and how many bytes it has. Of a line whose form is wrong
+// it says whether more was looked at than it has.
 fn walk_case(rt: &HostRuntime, log: &[u8], line: &[u8], out: &mut [u8]) -> io::Result<()> {
-    if line.len() != 4 {
+    let &[at_high, at_low, own_high, own_low] = line else {
         return Ok(());
-    }
-    if out.len() != 100 {
-        return Ok(());
-    }
-    let at = cells::word(line, 0) as usize;
-    let own = cells::word(line, 2) as usize;
-    if log.len() <= at {
+    };
+    let at = usize::from(u16::from_be_bytes([at_high, at_low]));
+    let own = usize::from(u16::from_be_bytes([own_high, own_low]));
+    if out.len() != 100 || log.len() <= at {
         return Ok(());
     }
     match walk::walk_line(log, at, out) {
-        walk::Walk::Frame(k, sum, looks) => trial::print_walk(rt, k, sum, looks, out),
-        walk::Walk::Malformed(looks) => trial::print_malformed(rt, looks <= own),
+        Ok(Frame { length, sum, looks }) => {
+            println!(rt; " {length} {sum} {looks}{}", Output::of(out, length))
+        }
+        Err(Malformed { looks }) if looks <= own => println!(rt; " malformed"),
+        Err(_) => println!(rt; " malformed, more was looked at"),
     }
 }
 
 // Runs the program on the log.
 fn print_case(rt: &HostRuntime, log: &[u8]) -> io::Result<()> {
-    write_bytes(rt, b"\n")?;
+    println!(rt)?;
     let mut out = [0u8; print::PRINTED];
-    let m = print::print_log(log, &mut out);
-    write_bytes(rt, &out[0..m])
+    let size = print::print_log(log, &mut out);
+    write_bytes(rt, &out[..size])
 }
 
-// Forecasts a question of the log: hands back the cells, 0 if it is refused.
-fn forecast_case(rt: &HostRuntime, log: &[u8], question: usize) -> io::Result<usize> {
+// Forecasts a question of the log: hands back the cells, or none if it is refused.
+fn forecast_case(rt: &HostRuntime, log: &[u8], question: usize) -> io::Result<Option<usize>> {
     match forecast::forecast(log, question) {
-        ForecastAnswer::Given(f) => {
-            let cells = f.cells;
-            trial::print_forecast(rt, f)?;
-            Ok(cells)
+        Ok(figures) => {
+            println!(rt; "{}", Shown(figures))?;
+            Ok(Some(figures.cells))
         }
-        ForecastAnswer::Refused(r) => {
-            trial::print_unforeseen(rt, r)?;
-            Ok(0)
+        Err(refusal) => {
+            println!(rt; "{}", Shown(refusal))?;
+            Ok(None)
         }
     }
 }
@@ -127,23 +132,20 @@ fn answer_within(rt: &HostRuntime, log: &[u8], question: usize, cells: usize) ->
     if WORKSPACE < cells {
         return Ok(());
     }
-    let mut ws = lent_workspace();
-    let mut bs = lent_bars();
-    let mut out = lent_output();
-    answer_case(rt, log, question, &mut ws[0..cells], &mut bs, &mut out)
+    let mut ws = filled::<WORKSPACE>(trial::LENT);
+    let mut bs = filled::<{ Log::BARSPACE }>(trial::LENT);
+    let mut out = filled::<OUTPUT>(trial::LENT);
+    answer_case(rt, log, question, &mut ws[..cells], &mut bs, &mut out)
 }
 
 // Forecasts each question of the log, and answers it lent one cell less than forecast, and lent just these cells.
 fn each_case(rt: &HostRuntime, log: &[u8]) -> io::Result<()> {
-    let mut q = 0;
-    while q <= Log::QUESTIONS {
-        let cells = forecast_case(rt, log, q)?;
-        if cells == 0 {
+    for question in 0..=Log::QUESTIONS {
+        let Some(cells @ 1..) = forecast_case(rt, log, question)? else {
             return Ok(());
-        }
-        answer_within(rt, log, q, cells - 1)?;
-        answer_within(rt, log, q, cells)?;
-        q += 1;
+        };
+        answer_within(rt, log, question, cells - 1)?;
+        answer_within(rt, log, question, cells)?;
     }
     Ok(())
 }
@@ -151,98 +153,82 @@ fn each_case(rt: &HostRuntime, log: &[u8]) -> io::Result<()> {
 // Runs a case in what is lent to it.
 fn run_case(
     rt: &HostRuntime,
-    c: Case,
-    cut: &[u8],
-    data: &[u8],
+    case: Case,
     ws: &mut [u8],
     bs: &mut [u8],
     out: &mut [u8],
 ) -> io::Result<()> {
-    let letter = c.letter;
-    trial::print_letter(rt, letter)?;
-    if letter == b'R' {
-        read_case(rt, data, out)
-    } else if letter == b'W' {
-        write_case(rt, data, out)
-    } else if letter == b'M' {
-        merge_case(rt, data, cut, out)
-    } else if letter == b'F' {
-        forecast_case(rt, data, c.question)?;
-        Ok(())
-    } else if letter == b'A' {
-        answer_case(rt, data, c.question, ws, bs, out)
-    } else if letter == b'H' {
-        holds_case(rt, data, c.question, cut, ws, bs, out)
-    } else if letter == b'P' {
-        print_case(rt, data)
-    } else if letter == b'E' {
-        print_case(rt, data)?;
-        each_case(rt, data)
-    } else if letter == b'L' {
-        walk_case(rt, data, cut, out)
-    } else {
-        bases::print_case(rt, data)
+    let Case {
+        letter,
+        question,
+        cut,
+        data,
+        ..
+    } = case;
+    write_bytes(rt, &[letter])?;
+    // By the letters themselves: no other place asks what one means.
+    match letter {
+        b'R' => read_case(rt, data, out),
+        b'W' => write_case(rt, data, out),
+        b'M' => merge_case(rt, data, cut, out),
+        b'F' => {
+            forecast_case(rt, data, question)?;
+            Ok(())
+        }
+        b'A' => answer_case(rt, data, question, ws, bs, out),
+        b'H' => holds_case(rt, data, question, cut, ws, bs, out),
+        b'P' => print_case(rt, data),
+        b'E' => {
+            print_case(rt, data)?;
+            each_case(rt, data)
+        }
+        b'L' => walk_case(rt, data, cut, out),
+        _ => bases::print_case(rt, data),
     }
 }
 
 // The spaces and the input's room are made here, so that no other proof has to look at their cells.
-fn lent_workspace() -> [u8; WORKSPACE] {
-    [trial::LENT; WORKSPACE]
-}
-
-fn lent_bars() -> [u8; Log::BARSPACE] {
-    [trial::LENT; Log::BARSPACE]
-}
-
-fn lent_output() -> [u8; OUTPUT] {
-    [trial::LENT; OUTPUT]
-}
-
-fn blank() -> [u8; INPUT] {
-    [0u8; INPUT]
+fn filled<const N: usize>(byte: u8) -> [u8; N] {
+    [byte; N]
 }
 
 // Lends a case spaces of the sizes that it names.
-fn lend(rt: &HostRuntime, c: Case, cut: &[u8], data: &[u8]) -> io::Result<()> {
-    let size = c.size;
-    if OUTPUT < size {
+fn lend(rt: &HostRuntime, case: Case) -> io::Result<()> {
+    let Case {
+        short,
+        cells,
+        size,
+        ..
+    } = case;
+    if OUTPUT < size || WORKSPACE < cells {
         return Ok(());
     }
-    let mut ws = lent_workspace();
-    let mut bs = lent_bars();
-    let mut out = lent_output();
-    let cells = c.cells;
-    if WORKSPACE < cells {
-        return Ok(());
-    }
-    let bars = Log::BARSPACE - c.short % 2;
+    let mut ws = filled::<WORKSPACE>(trial::LENT);
+    let mut bs = filled::<{ Log::BARSPACE }>(trial::LENT);
+    let mut out = filled::<OUTPUT>(trial::LENT);
+    let bars = Log::BARSPACE - usize::from(short);
     run_case(
         rt,
-        c,
-        cut,
-        data,
-        &mut ws[0..cells],
-        &mut bs[0..bars],
-        &mut out[0..size],
+        case,
+        &mut ws[..cells],
+        &mut bs[..bars],
+        &mut out[..size],
     )
 }
 
 // Runs the cases of the input one after the other.
 fn run_cases(rt: &HostRuntime, input: &[u8]) -> io::Result<()> {
-    let mut at = 0;
-    while trial::HEAD <= input.len() - at {
-        let c = trial::case_at(input, at);
-        let cut = c.cut;
-        let data = c.data;
-        let end = c.end;
-        lend(rt, c, &input[cut..data], &input[data..end])?;
-        at = end;
+    let mut rest = input;
+    // By what is left: how long a case is stands in its own first bytes.
+    while let Some((case, behind)) = trial::first_case(rest) {
+        lend(rt, case)?;
+        rest = behind;
     }
     Ok(())
 }
 
 fn main(rt: HostRuntime) -> io::Result<()> {
-    let mut room = blank();
+    let mut room = filled::<INPUT>(0);
     let n = read_input(&rt, &mut room)?;
     run_cases(&rt, &room[..n])
 }

@@ -1,16 +1,17 @@
 -- What Holds comes to, refusal by refusal; demand 2 follows from the equality with the definition.
-use mathlib.Core.Path.{◌≡◌, sym, ◌∙◌}
+use mathlib.Core.Path.{◌≡◌, refl, sym, ◌∙◌}
 use mathlib.Core.Bool.{Bool, true, false}
 use mathlib.Core.List.{List, [], ◌∷◌}
 use Prim.Native.Nat.{ℕ, ◌≤◌}
 use lib.ListN.{length}
+use Rattle.std.specs.Prelude.{Ok}
 use Rattle.model.specs.Limits.{limits, barspace_size}
 use Rattle.model.specs.Formula.{Formula}
 use Rattle.model.specs.Cut.{Cut}
 use Rattle.model.specs.Computation.{Computation, Consistent, is_consistent}
 use Rattle.model.specs.Forecast.{forecast}
 use Rattle.model.specs.Answer.{true_at, yes_no}
-use Rattle.model.specs.Reply.{Reply, gives, refuses}
+use Rattle.model.specs.Reply.{Reply, gives, refuses, holds_reply}
 use Rattle.model.specs.Operations.{Kept, shut, poses, opening, cramped, holds_reply_to, holds_op}
 use Rattle.model.specs.Promise.{Asked, Tested}
 use Rattle.codec.proofs.Suited.{suitable}
@@ -43,6 +44,11 @@ Told log q c ws bs reply ws' bs' =
     × ((Kept reply ws ws' × Kept reply bs bs')
     × ((K : Computation) (f : Formula) → Asked limits log q K f → Consistent K c → (forecast K f).cells ≤ length ws → barspace_size ≤ length bs → Tested K f c reply))
 
+-- Yes is 1, no is 0.
+yes-no : (b : Bool) → holds_reply (Ok b) ≡ gives (yes_no b ∷ [])
+yes-no true = refl
+yes-no false = refl
+
 module _ (log : List ℕ) (q : ℕ) (c : Cut) (ws bs : List ℕ) where
   promised : (reply : Reply) → reply ≡ holds_op limits log q c (length ws) (length bs)
       → (K : Computation) (f : Formula) → Asked limits log q K f → Consistent K c → (forecast K f).cells ≤ length ws → barspace_size ≤ length bs → Tested K f c reply
@@ -51,5 +57,5 @@ module _ (log : List ℕ) (q : ℕ) (c : Cut) (ws bs : List ℕ) where
   pub told-refused : (reply : Reply) (k n : ℕ) → reply ≡ refuses k n → holds_op limits log q c (length ws) (length bs) ≡ refuses k n → Told log q c ws bs reply ws bs
   told-refused reply k n r e = (r ∙ sym e, ((kept reply ws, kept reply bs), promised reply (r ∙ sym e)))
 
-  pub told_given : (reply : Reply) (x : ℕ) → reply ≡ gives (x ∷ []) → holds_op limits log q c (length ws) (length bs) ≡ gives (x ∷ []) → (ws' bs' : List ℕ) → Told log q c ws bs reply ws' bs'
-  told_given reply x r e ws' bs' = (r ∙ sym e, ((rw r tt, rw r tt), promised reply (r ∙ sym e)))
+  pub told_given : (b : Bool) → holds_op limits log q c (length ws) (length bs) ≡ gives (yes_no b ∷ []) → (ws' bs' : List ℕ) → Told log q c ws bs (holds_reply (Ok b)) ws' bs'
+  told_given b e ws' bs' = let r : holds_reply (Ok b) ≡ gives (yes_no b ∷ []) = yes-no b in (r ∙ sym e, ((rw r tt, rw r tt), promised _ (r ∙ sym e)))

@@ -6,51 +6,41 @@ ghost use Rattle.model.specs.Limits.{limits, barspace_size};
 ghost use Rattle.model.specs.Formula.{Formula};
 ghost use Rattle.model.specs.Computation.{Computation, Consistent};
 ghost use Rattle.model.specs.Forecast.{forecast};
-ghost use Rattle.model.specs.Reply.{refuses, number, holds_reply};
+ghost use Rattle.model.specs.Reply.{holds_reply};
 ghost use Rattle.model.specs.Operations.{Kept, holds_op};
 ghost use Rattle.model.specs.Promise.{Asked, Tested};
 
-use load::Acceptance;
-use model::{Fault, HoldsAnswer, Log};
+use frame::State;
+use layout::consistent::consistent;
+use model::{Fault, Log, Refusal};
 use opened::test_cut;
 use opening::{cramped, open_log};
 
-// A refusal where no one line is at fault.
-fn refused(fault: Fault) -> HoldsAnswer
-    ensures { holds_reply result ≡ refuses (number fault) 0 }
-{
-    let refusal = model::Refusal {
-        fault: fault,
-        line: 0,
-    };
-    HoldsAnswer::Refused(refusal)
-}
-
 // Holds: whether a question of a log is true at a cut.
-pub fn holds(log: &[u8], question: usize, cut: &[u8], ws: &mut [u8], bs: &mut [u8]) -> HoldsAnswer
+pub fn holds(
+    log: &[u8],
+    question: usize,
+    cut: &[u8],
+    ws: &mut [u8],
+    bs: &mut [u8],
+) -> Result<bool, Refusal>
     ensures result_value { holds_reply result ≡ holds_op limits log.now question cut.now (length ws.old) (length bs.old) }
     ensures kept { Kept (holds_reply result) ws.old ws.new × Kept (holds_reply result) bs.old bs.new }
     ensures tested { (K : Computation) (f : Formula) → Asked limits log.now question K f → Consistent K cut.now → (forecast K f).cells ≤ length ws.old → barspace_size ≤ length bs.old → Tested K f cut.now (holds_reply result) }
 {
     let mut list = [0u8; Log::LIST];
     let mut store = [0u8; Log::STORE];
-    let loaded = open_log(limits::limits(), log, question, &mut list, &mut store);
-    let outcome = loaded.outcome;
-    match outcome {
-        Acceptance::Refused(refusal) => HoldsAnswer::Refused(refusal),
-        Acceptance::Accepted => {
-            let s = loaded.state;
-            let counts = s.counts;
-            let inside = layout::consistent::consistent(cut, &store, s.stations, &counts);
-            let small = cramped(&list, loaded, question, ws.len(), bs.len());
-            if !inside {
-                return refused(Fault::Cut);
-            }
-            if small {
-                return refused(Fault::Workspace);
-            }
-            let yes = test_cut(&list, &store, loaded, question, cut, ws, bs);
-            replies::told(yes)
-        }
+    let loaded = open_log(limits::limits(), log, question, &mut list, &mut store)?;
+    let State {
+        stations,
+        counts,
+        ..
+    } = loaded.state;
+    if !consistent(cut, &store, stations, &counts) {
+        return Err(Fault::Cut.into());
     }
+    if cramped(&list, loaded, question, ws.len(), bs.len()) {
+        return Err(Fault::Workspace.into());
+    }
+    Ok(test_cut(&list, &store, loaded, question, cut, ws, bs))
 }

@@ -14,6 +14,7 @@ pub fn read_full<R: Read>(input: &mut R, buf: &mut [u8]) -> io::Result<usize>
     ensures to_the_end { IfOk result (λ n. n < length buf.new → IsAtEnd (R.remaining input.new)) }
 {
     let mut done = 0;
+    // By a count of bytes: how many come at a time is known only once they are read.
     while done < buf.len() {
         let n = input.read(&mut buf[done..])?;
         if n == 0 {

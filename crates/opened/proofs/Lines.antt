@@ -10,7 +10,7 @@ use lib.Seq.{take_at, drop_at, take_all, drop-drop}
 use borrow.Rule.Slice.PartMut.{put_mid}
 use Rattle.model.specs.declared.Limits.{Limits}
 use Rattle.model.specs.Limits.{print_limits, line_size}
-use Rattle.structure.specs.declared.Shape.{Shape}
+use Rattle.structure.specs.declared.Run.{Run}
 use Rattle.model.specs.Formula.{Formula, prefix}
 use Rattle.model.specs.Computation.{Computation}
 use Rattle.model.specs.Answer.{answer, answer_line}
@@ -56,27 +56,27 @@ line-behind l line was out part end r h w v =
     }
 
 -- The lines to the first i questions stand at the front of the output, and end at `end`.
-pub record Printing (l : Loaded) (list : List ℕ) (x : Shape) (starts facts was out : List ℕ) (end i : ℕ) : Type 0 where
-  pub is : (p : Prepared print_limits l list x starts facts) → AtFront (answer_lines p.accepts.reading.computation (take i p.accepts.reading.questions)) end was out
+pub record Printing (l : Loaded) (list : List ℕ) (run : Run) (was out : List ℕ) (end i : ℕ) : Type 0 where
+  pub is : (p : Prepared print_limits l list run) → AtFront (answer_lines p.accepts.reading.computation (take i p.accepts.reading.questions)) end was out
 
-pub printing_none : (l : Loaded) (list : List ℕ) (x : Shape) (starts facts was : List ℕ) → Printing l list x starts facts was was 0 0
+pub printing_none : (l : Loaded) (list : List ℕ) (run : Run) (was : List ℕ) → Printing l list run was was 0 0
 unfolding answer_lines
-printing_none l list x starts facts was = record { is = λ p. record { size = refl; front = refl } }
+printing_none l list run was = record { is = λ p. record { size = refl; front = refl } }
 
-module _ {l : Loaded} {list : List ℕ} {x : Shape} {starts facts : List ℕ} (out : List ℕ) (end i : ℕ) (h : i < l.state.questions) (inside : end ≤ length out) (bytes : List ℕ)
+module _ {l : Loaded} {list : List ℕ} {run : Run} (out : List ℕ) (end i : ℕ) (h : i < l.state.questions) (inside : end ≤ length out) (bytes : List ℕ)
     (found : (m : Limits) (log t : List ℕ) (a : Accepts m log l.state l.length list t) (f : Formula) → get_elem? a.reading.questions i ≡ some f → bytes ≡ prefix f) (r : ℕ) (part : List ℕ)
-    (put : (K : Computation) (f : Formula) → Question K f bytes x starts facts → AtFront (answer_line (answer K f)) r (take (length out - end) (drop end out)) part) where
-  there : (p : Prepared print_limits l list x starts facts) → (f : Formula) × (get_elem? p.accepts.reading.questions i ≡ some f)
+    (put : (K : Computation) (f : Formula) → Question K f run bytes → AtFront (answer_line (answer K f)) r (take (length out - end) (drop end out)) part) where
+  there : (p : Prepared print_limits l list run) → (f : Formula) × (get_elem? p.accepts.reading.questions i ≡ some f)
   there p = question-there p.accepts.reading.questions i (omega (arith, question-count p.accepts))
 
-  written : (p : Prepared print_limits l list x starts facts) → AtFront (answer_line (answer p.accepts.reading.computation (there p).0)) r (take (length out - end) (drop end out)) part
+  written : (p : Prepared print_limits l list run) → AtFront (answer_line (answer p.accepts.reading.computation (there p).0)) r (take (length out - end) (drop end out)) part
   written p = put p.accepts.reading.computation (there p).0 (question p.accepts.reading.computation (there p).0 (good-at p.accepts i (there p).0 (there p).1) bytes (found print_limits p.log p.store p.accepts (there p).0 (there p).1) p.laid)
 
   -- One more line, within the size of a line.
-  pub line-short : Prepared print_limits l list x starts facts → r ≤ line_size
+  pub line-short : Prepared print_limits l list run → r ≤ line_size
   line-short p = omega (arith, (written p).size, asked-line-fits print_suitable (is-asked p.accepts i (there p).0 (there p).1))
 
-  pub printing_more : {was : List ℕ} → Printing l list x starts facts was out end i → Printing l list x starts facts was (put_mid end (length out - end) out part) (end + r) (i + 1)
+  pub printing_more : {was : List ℕ} → Printing l list run was out end i → Printing l list run was (put_mid end (length out - end) out part) (end + r) (i + 1)
   printing_more {was} g = record {
     is = λ p.
         subst (λ y. AtFront y (end + r) was (put_mid end (length out - end) out part)) (sym (lines_more p.accepts.reading.computation p.accepts.reading.questions i (there p).0 (there p).1))
@@ -84,7 +84,7 @@ module _ {l : Loaded} {list : List ℕ} {x : Shape} {starts facts : List ℕ} (o
   }
 
 -- At the end all questions are answered.
-pub printing_all : {l : Loaded} {list : List ℕ} {x : Shape} {starts facts was out : List ℕ} {end i : ℕ} → Printing l list x starts facts was out end i → l.state.questions ≤ i
-    → (p : Prepared print_limits l list x starts facts) → AtFront (answer_lines p.accepts.reading.computation p.accepts.reading.questions) end was out
+pub printing_all : {l : Loaded} {list : List ℕ} {run : Run} {was out : List ℕ} {end i : ℕ} → Printing l list run was out end i → l.state.questions ≤ i
+    → (p : Prepared print_limits l list run) → AtFront (answer_lines p.accepts.reading.computation p.accepts.reading.questions) end was out
 printing_all {was = was} {out = out} {end = end} {i = i} g h p =
     subst (λ y. AtFront (answer_lines p.accepts.reading.computation y) end was out) (take_all i p.accepts.reading.questions (omega (arith, question-count p.accepts))) (g.is p)

@@ -8,14 +8,11 @@ use native.Mathlib.Numerals.{add-one}
 use lib.ListN.{length, get_elem?}
 use Rattle.model.specs.declared.Limits.{Limits}
 use Rattle.model.specs.declared.Forecast.{Forecast}
-use Rattle.model.specs.Limits.{limits}
 use Rattle.model.specs.Formula.{Formula, prefix, formula_of}
 use Rattle.model.specs.Computation.{Computation, stations, event_count}
 use Rattle.model.specs.Rules.{as_true}
 use Rattle.model.specs.Forecast.{forecast}
-use Rattle.lattice.proofs.Forecast.{Low, forecast-low}
 use Rattle.lattice.proofs.Held.{fits_to}
-use Rattle.codec.specs.Limits.{NoLarger}
 use Rattle.codec.proofs.Formulas.{formula-prefix, length-formula}
 use Rattle.extents.specs.declared.Figures.{Figures}
 use Rattle.extents.specs.Extents.{figures_of}
@@ -24,7 +21,6 @@ use Rattle.query.specs.Judged.{judged, figures_in}
 use Rattle.query.proofs.Judged.{figures-prefix}
 use Rattle.frame.specs.declared.State.{State}
 use Rattle.load.specs.Loading.{Accepts}
-use Rattle.frame.proofs.Steps.{bounded_up}
 use Rattle.opening.proofs.Logs.{good-at}
 
 -- As the code counts: n stations, and e + 1 starts.
@@ -49,9 +45,3 @@ module _ {m : Limits} {log : List ℕ} {s : State} {k : ℕ} {list t : List ℕ}
 
   pub foreseen : (g : Figures) → g ≡ figures_of (as_true f) → costs g s.stations s.events ≡ forecast K f
   foreseen g e = costs-forecast K f g s.stations s.events e (sym a.holds.stored.size) a.holds.events
-
-  -- Its numbers are small.
-  pub foreseen_low : NoLarger m limits → (g : Figures) → g ≡ figures_of (as_true f) → Low (costs g s.stations s.events)
-  foreseen_low fit g e =
-      let b = bounded_up fit a.bounded in
-      rw (foreseen g e) (forecast-low K f (good-at a q f is).1 (omega (arith, a.holds.stored.size, b.few_stations)) (omega (arith, a.holds.events, b.few_events)))

@@ -1,24 +1,20 @@
 -- What a loaded log gives: its computation can be laid out, and each question of it can be found, is sound, fits and can be worked out.
-use mathlib.Core.Path.{◌≡◌, refl, sym, ap, ◌∙◌}
+use mathlib.Core.Path.{◌≡◌, refl, sym, ◌∙◌}
 use mathlib.Core.Bool.{true}
 use mathlib.Core.List.{List, [], ◌∷◌}
 use mathlib.Core.Option.{none, some}
 use Prim.Native.Nat.{ℕ, zero, suc, ◌+◌, ◌≤◌, ◌<◌}
 use native.Mathlib.Omega.{arith}
-use lib.ListN.{length, take, get_or, get_elem?, length-map, get_or-map}
-use lib.Seq.{ext_get_or, get_or-take, length-take-le}
+use lib.ListN.{length, get_or, get_elem?}
 use Rattle.model.specs.declared.Limits.{Limits}
-use Rattle.model.specs.Limits.{limits}
-use Rattle.model.specs.Lists.{total}
 use Rattle.model.specs.Formula.{Formula, prefix, sound}
 use Rattle.model.specs.Rules.{as_true, workable}
 use Rattle.model.specs.Size.{fits}
 use Rattle.model.specs.Cut.{Cut}
-use Rattle.model.specs.Computation.{stations, event_count, full, is_consistent}
+use Rattle.model.specs.Computation.{stations, event_count, is_consistent}
 use Rattle.model.specs.Promise.{Asked}
 use Rattle.lattice.proofs.Consistency.{consistent_iff}
 use Rattle.lattice.proofs.Lists.{all_at, elem_there, some_below}
-use Rattle.codec.specs.Limits.{NoLarger}
 use Rattle.codec.proofs.Bytes.{Bytes, bytes_tail}
 use Rattle.codec.proofs.Formulas.{prefix-formula}
 use Rattle.codec.proofs.Lawful.{Lawful}
@@ -26,7 +22,6 @@ use Rattle.codec.proofs.QuestionFrames.{question_frames, question-spelt}
 use Rattle.codec.proofs.Readings.{log_are_frames}
 use Rattle.frame.specs.declared.State.{State}
 use Rattle.frame.specs.State.{first_question}
-use Rattle.frame.proofs.Steps.{bounded_up}
 use Rattle.load.specs.Loading.{Accepts}
 use Rattle.load.proofs.Questions.{good, question-frame}
 use Rattle.layout.specs.StoredValid.{StoredValid}
@@ -56,16 +51,6 @@ module _ {m : Limits} {log : List ℕ} {s : State} {k : ℕ} {list t : List ℕ}
 
   pub loaded : StoredValid a.reading.computation s.stations s.messages s.counts t
   loaded = record { stored = a.holds.stored; posted = a.holds.posted; messages = sym a.holds.messages; valid = law.valid }
-
-  pub counts-total : NoLarger m limits → total (take s.stations s.counts) ≡ s.events
-  counts-total fit =
-      let K = a.reading.computation in
-      let b = bounded_up fit a.bounded in
-      let x : length (take s.stations s.counts) ≡ s.stations = length-take-le s.stations s.counts (omega (arith, b.eight, b.few_stations)) in
-      let y : length (full K) ≡ s.stations = length-map K.events length ∙ a.holds.sizes ∙ a.holds.stored.size in
-      let z : take s.stations s.counts ≡ full K = ext_get_or 0 (take s.stations s.counts) (full K) (x ∙ sym y) (λ i h.
-      get_or-take s.stations s.counts i 0 (omega arith) ∙ a.holds.stored.each i ∙ sym (get_or-map length K.events i [])) in
-      ap total z ∙ sym a.holds.events
 
   -- A consistent cut has a count for each station.
   pub cut-size : (c : Cut) → is_consistent a.reading.computation c ≡ true → length c ≡ s.stations

@@ -1,5 +1,5 @@
 -- A log opened for a question, as code hands it on.
-use Rattle.std.specs.Prelude.{◌≡◌, ℕ, List}
+use Rattle.std.specs.Prelude.{◌≡◌, ℕ, List, Result, MatchResult}
 use Rattle.std.proofs.Math.Option.{some}
 use Rattle.std.proofs.Math.ListN.{get_elem?}
 use Rattle.model.specs.declared.Limits.{Limits}
@@ -8,10 +8,8 @@ use Rattle.model.specs.Formula.{Formula}
 use Rattle.model.specs.Reply.{number}
 use Rattle.model.specs.Operations.{shut, opening}
 use Rattle.codec.specs.Limits.{NoLarger}
-use Rattle.frame.specs.State.{fresh}
-use Rattle.load.specs.declared.Acceptance.{Acceptance}
-use Rattle.load.specs.declared.Acceptance.TheVariants as acceptance
 use Rattle.load.specs.declared.Loaded.{Loaded}
+use Rattle.load.specs.declared.Unread.{Unread}
 use Rattle.load.specs.Loading.{Accepts}
 
 -- Some log was loaded, and list and store hold it.
@@ -27,7 +25,6 @@ pub record Poses (m : Limits) (log : List ℕ) (q : ℕ) (l : Loaded) (list t : 
   pub question : Formula
   pub is : get_elem? accepts.reading.questions q ≡ some question
 
--- What opening a log for a question comes to; a refusal leaves nothing in the state.
-abbrev pub Opens : Limits → Acceptance → List ℕ → ℕ → Loaded → List ℕ → List ℕ → Type 0
-Opens m acceptance.Accepted log q l list t = Poses m log q l list t
-Opens m (acceptance.Refused x) log q l list t = (opening m log q ≡ shut (number x.fault) x.line) × (l.state ≡ fresh)
+-- What opening a log for a question comes to.
+abbrev pub Opens : Limits → List ℕ → ℕ → Result Loaded Unread → List ℕ → List ℕ → Type 0
+Opens m log q r list t = MatchResult r (λ l. Poses m log q l list t) (λ u. opening m log q ≡ shut (number u.refusal.fault) u.refusal.line)

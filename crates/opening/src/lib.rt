@@ -5,45 +5,44 @@ ghost use Rattle.std.specs.Prelude.{◌≡◌, List, ℕ, ◌≤◌, ◌<◌, le
 ghost use Rattle.std.proofs.Math.Option.{some};
 ghost use Rattle.std.proofs.Math.ListN.{get_elem?};
 ghost use Rattle.model.specs.declared.Limits.{Limits};
-ghost use Rattle.model.specs.Limits.{limits, store_size, starts_size, facts_size};
+ghost use Rattle.model.specs.Limits.{limits, starts_size, facts_size};
 ghost use Rattle.model.specs.Formula.{Formula, prefix};
 ghost use Rattle.model.specs.Forecast.{forecast};
 ghost use Rattle.model.specs.Operations.{cramped};
 ghost use Rattle.codec.specs.Limits.{NoLarger};
-ghost use Rattle.structure.specs.Laid.{Given};
-ghost use Rattle.load.specs.Loading.{Left, Accepts};
+ghost use Rattle.structure.specs.Laid.{Laid, Facts};
+ghost use Rattle.load.specs.Loading.{Left, Accepts, written};
 ghost use Rattle.opening.specs.Opening.{Holding, Opens};
 
+use frame::State;
 use frames::question_at;
-use load::{Acceptance, Loaded};
-use model::{Forecast, Log};
+use load::{List, Loaded, Unread};
+use model::{Fault, Forecast, Limits, Log};
 use query::figures;
 use structure::Shape;
+use table::Store;
 
 // Loads a log within the limits m, and looks whether it has a question of this number: the refusals of Read, then 10.
+#[tactic(auto, using(crate::proofs::Openings::opens_posed, crate::proofs::Openings::opens_without, crate::proofs::Openings::opens_refused))]
 pub fn open_log(
-    m: model::Limits,
+    m: Limits,
     log: &[u8],
     question: usize,
-    list: &mut [u8],
-    store: &mut [u8],
-) -> Loaded
+    list: &mut List,
+    store: &mut Store,
+) -> Result<Loaded, Unread>
     requires no_larger { NoLarger m limits }
-    requires list_len { (length list.old ≡ limits.list) × (length store.old ≡ store_size) }
-    ensures opens { Opens m result.outcome log.now question result list.new store.new }
-    ensures left { Left result.length list.old store.old list.new store.new }
+    ensures opens { Opens m log.now question result list.new store.new }
+    ensures left { Left (written result) list.old list.new }
 {
-    let loaded = load::load(m, log, list, store);
-    let outcome = loaded.outcome;
-    match outcome {
-        Acceptance::Refused(_) => loaded,
-        Acceptance::Accepted => {
-            let s = loaded.state;
-            if question < s.questions {
-                return loaded;
-            }
-            Loaded::refused(model::Fault::NoQuestion, 0, loaded.length)
-        }
+    let loaded = load::load(m, log, list, store)?;
+    if question < loaded.state.questions {
+        Ok(loaded)
+    } else {
+        Err(Unread {
+            refusal: Fault::NoQuestion.into(),
+            length: loaded.length,
+        })
     }
 }
 
@@ -53,22 +52,24 @@ pub fn asked(list: &[u8], loaded: Loaded, question: usize) -> &[u8]
     requires held { (t : List ℕ) × Holding loaded list.now t }
     ensures { (m : Limits) (log t : List ℕ) (a : Accepts m log loaded.state loaded.length list.now t) (f : Formula) → get_elem? a.reading.questions question ≡ some f → result.now ≡ prefix f }
 {
-    let s = loaded.state;
-    let k = loaded.length;
-    question_at(list, k, s.first_question() + question)
+    let Loaded { state, length } = loaded;
+    question_at(list, length, state.first_question() + question)
 }
 
 // Lays a loaded log out in starts and facts, and gives its shape.
-pub fn lay(store: &[u8], loaded: Loaded, starts: &mut [u8], facts: &mut [u16]) -> Shape
-    requires store_len { (length store.now ≡ store_size) × (starts_size ≤ length starts.old) × (facts_size ≤ length facts.old) }
+pub fn lay(store: &Store, loaded: Loaded, starts: &mut [u8], facts: &mut [u16]) -> Shape
+    requires sizes { (starts_size ≤ length starts.old) × (facts_size ≤ length facts.old) }
     requires held { (list : List ℕ) × Holding loaded list store.now }
-    ensures { (result.n ≡ loaded.state.stations) × ((m : Limits) (log list : List ℕ) (a : Accepts m log loaded.state loaded.length list store.now) → Given a.reading.computation result starts.new facts.new) }
+    ensures { (result.n ≡ loaded.state.stations) × ((m : Limits) (log list : List ℕ) (a : Accepts m log loaded.state loaded.length list store.now) → Laid a.reading.computation result starts.new × Facts a.reading.computation result facts.new) }
 {
-    let s = loaded.state;
-    let n = s.stations;
-    let e = s.events;
-    let counts = s.counts;
-    layout::lay(store, n, e, s.messages, counts, starts, facts)
+    let State {
+        stations,
+        events,
+        messages,
+        counts,
+        ..
+    } = loaded.state;
+    layout::lay(store, stations, events, messages, counts, starts, facts)
 }
 
 // What a question of a loaded log can cost.
@@ -77,19 +78,20 @@ pub fn foresee(list: &[u8], loaded: Loaded, question: usize) -> Forecast
     requires held { (t : List ℕ) × Holding loaded list.now t }
     ensures { (m : Limits) (log t : List ℕ) (a : Accepts m log loaded.state loaded.length list.now t) (f : Formula) → get_elem? a.reading.questions question ≡ some f → result ≡ forecast a.reading.computation f }
 {
-    let s = loaded.state;
-    let n = s.stations;
-    let e = s.events;
-    let q = asked(list, loaded, question);
-    let g = figures(q, n);
-    let held = g.held as usize;
-    let pairs = g.pairs as usize;
+    let State {
+        stations,
+        events,
+        ..
+    } = loaded.state;
+    let costs = figures(asked(list, loaded, question), stations);
+    let held = usize::from(costs.held);
+    let starts = events + 1;
     Forecast {
-        width: g.width as usize,
-        bars: g.most as usize,
-        held: held,
-        cells: held * n * (e + 1),
-        ceiling: pairs * ((e + 1) * (e + 1)),
+        width: usize::from(costs.width),
+        bars: usize::from(costs.most),
+        held,
+        cells: held * stations * starts,
+        ceiling: usize::from(costs.pairs) * (starts * starts),
     }
 }
 
@@ -99,10 +101,6 @@ pub fn cramped(list: &[u8], loaded: Loaded, question: usize, ws: usize, bs: usiz
     requires held { (t : List ℕ) × Holding loaded list.now t }
     ensures { (m : Limits) (log t : List ℕ) (a : Accepts m log loaded.state loaded.length list.now t) (f : Formula) → get_elem? a.reading.questions question ≡ some f → result ≡ cramped a.reading.computation f ws bs }
 {
-    let f = foresee(list, loaded, question);
-    let cells = f.cells;
-    if ws < cells {
-        return true;
-    }
-    bs < Log::BARSPACE
+    let Forecast { cells, .. } = foresee(list, loaded, question);
+    ws < cells || bs < Log::BARSPACE
 }

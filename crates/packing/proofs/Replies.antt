@@ -2,7 +2,7 @@
 use mathlib.Core.Path.{◌≡◌, refl, sym, ap, ◌∙◌}
 use mathlib.Core.Bool.{Bool, true, false, cond}
 use mathlib.Core.List.{List, [], ◌∷◌}
-use Prim.Native.Nat.{ℕ, ◌+◌, ◌/◌, ◌%◌, ◌^◌, ◌≤◌, ◌<◌}
+use Prim.Native.Nat.{ℕ, ◌/◌, ◌%◌, ◌^◌, ◌≤◌, ◌<◌}
 use native.Mathlib.Omega.{arith}
 use native.Mathlib.Nat.{mul_comm, mul-le-mul_right, suc-mul}
 use lib.ListN.{length}
@@ -14,10 +14,11 @@ use Rattle.model.specs.Cut.{Cut}
 use Rattle.model.specs.Computation.{is_consistent}
 use Rattle.model.specs.Answer.{true_at, yes_no}
 use Rattle.model.specs.Reading.{Reading, Result, refused, accepted, read_log, read_list}
-use Rattle.model.specs.declared.Forecast.{Forecast}
+use Rattle.std.specs.Prelude.{Result as Outcome, Ok, Err}
+use Rattle.model.specs.declared.Refusal.{Refusal}
 use Rattle.model.specs.declared.Fault.{Fault}
 use Rattle.model.specs.declared.Fault.TheVariants.{LongLog, LineForm, CheckByte, Kind, Header, Event, Clock, Formula, Size, NoQuestion, Workspace, Output, Cut as CutFault, FrameList, Message, Unworkable, TooWide, TooMany}
-use Rattle.model.specs.Reply.{Reply, gives, refuses, number, figures}
+use Rattle.model.specs.Reply.{Reply, gives, refuses, number, write_reply, line_reply}
 use Rattle.model.specs.Operations.{Effect, refuse, write, read_effect, read_op, Opening, shut, poses, opening, cramped, forecast_reply_to, forecast_op, line_effect, answer_effect, answer_op, holds_reply_to, holds_op, write_effect, write_op, merged_log, too_wide_together, too_many_together, merge_effect, merge_op}
 use Rattle.codec.proofs.Accepted.{accepted-log, accepted-list}
 use Rattle.codec.proofs.Suited.{suitable}
@@ -109,15 +110,6 @@ holds_fair log q c ws bs = by (opening limits log q) refl
 
 -- WHAT THE CODE PACKS
 
-pub line_low : (widths : List ℕ) (k n : ℕ) (x : Reply) → refuses k n ≡ x → Fair widths x → n ≤ limits.bytes + 1
-line_low widths k n x e f = (rw (sym e) at f).1
-
-pub counts-low : (a b c d : ℕ) (x : Reply) → gives (a ∷ b ∷ c ∷ d ∷ []) ≡ x → Fair read_widths x → (a < 2 ^ 8) × (b < 2 ^ 8) × (c < 2 ^ 8) × (d < 2 ^ 16)
-counts-low a b c d x e f = let w = rw (sym e) at f in (w.0, w.1.0, w.1.1.0, w.1.1.1.0)
-
-pub figures-low : (f : Forecast) (x : Reply) → gives (figures f) ≡ x → Fair forecast_widths x → (f.width < 2 ^ 5) × (f.bars < 2 ^ 5) × (f.held < 2 ^ 6) × (f.cells < 2 ^ 17) × (f.ceiling < 2 ^ 24)
-figures-low f x e h = let w = rw (sym e) at h in (w.0, w.1.0, w.1.1.0, w.1.1.1.0, w.1.1.1.1.0)
-
 -- A fault's number fits five bits.
 pub few_faults : (x : Fault) → number x < 32
 few_faults LongLog = omega arith
@@ -139,10 +131,10 @@ few_faults Unworkable = omega arith
 few_faults TooWide = omega arith
 few_faults TooMany = omega arith
 
--- One value is its own number.
-pub one-packed : (w v : ℕ) (x : Reply) → gives (v ∷ []) ≡ x → v ≡ packed (w ∷ []) x
-unfolding packed pack
-one-packed w v x e = let z : v ≡ packed (w ∷ []) (gives (v ∷ [])) = omega arith in z ∙ ap (packed (w ∷ [])) e
+-- Answer's reply is packed as Write's is: both have one length.
+pub line_as_written : (r : Outcome ℕ Refusal) → line_reply r ≡ write_reply r
+line_as_written (Ok n) = refl
+line_as_written (Err r) = refl
 
 -- TOLD APART
 

@@ -1,96 +1,95 @@
 // The operations' replies, each packed in one number.
 #![tactic(auto)]
 
-ghost use Rattle.std.specs.Prelude.{◌≡◌, ℕ, ◌+◌, ◌^◌, ◌≤◌, ◌<◌, List, [], ◌∷◌};
-ghost use Rattle.model.specs.Limits.{limits};
-ghost use Rattle.model.specs.Reply.{gives, refusal, figures, read_reply, write_reply, forecast_reply, line_reply, holds_reply};
-ghost use Rattle.packing.specs.Packed.{packed, read_widths, write_widths, forecast_widths, answer_widths, holds_widths, Fair};
+ghost use Rattle.std.specs.Prelude.{◌≡◌, ℕ, List, Result, Ok, Err, refl};
+ghost use Rattle.model.specs.declared.Refusal.{Refusal};
+ghost use Rattle.model.specs.Reply.{Reply, refusal, read_reply, write_reply, forecast_reply, holds_reply};
+ghost use Rattle.packing.specs.Packed.{packed, read_widths, write_widths, forecast_widths, holds_widths, Fair};
 
-use model::{
-    Forecast, ForecastAnswer, HoldsAnswer, LineAnswer, Log, ReadAnswer, Refusal, WriteAnswer,
-};
+use model::{Forecast, Log, Refusal};
 
 // One in the highest five bits.
 const HIGHEST: u64 = 0x0800_0000_0000_0000;
 
-// A refusal: its number in the highest five bits, its line below.
-fn packed_refusal(r: Refusal) -> u64
-    requires { r.line ≤ limits.bytes + 1 }
-    ensures { (widths : List ℕ) → result ≡ packed widths (refusal r) }
-{
-    let f = r.fault;
-    replies::number(f) as u64 * HIGHEST + r.line as u64
+// What an operation hands back besides refusals: values that are packed one after another, the first in the lowest bits.
+pub trait Pack {
+    ghost widths: { List ℕ };
+
+    ghost reply: { Result Self Refusal → Reply };
+
+    fn pack(self) -> u64
+        requires { Fair widths (reply (Ok self)) }
+        ensures { result ≡ packed widths (reply (Ok self)) };
+
+    ghost refuses: { (r : Refusal) → reply (Err r) ≡ refusal r };
 }
 
-// Read's four values, the first in the lowest byte.
-fn packed_counts(l: Log) -> u64
-    requires { (l.stations < 2 ^ 8) × (l.events < 2 ^ 8) × (l.questions < 2 ^ 8) × (l.list < 2 ^ 16) }
-    ensures { result ≡ packed read_widths (gives (l.stations ∷ l.events ∷ l.questions ∷ l.list ∷ [])) }
-{
-    l.stations as u64 + 256 * (l.events as u64 + 256 * (l.questions as u64 + 256 * (l.list as u64)))
-}
+// Read: the counts of stations, events and questions and the list's length.
+impl Pack for Log {
+    ghost widths = { read_widths };
 
-// Read's reply: the counts of stations, events and questions and the list's length, or a refusal.
-pub fn packed_read(a: ReadAnswer) -> u64
-    requires { Fair read_widths (read_reply a) }
-    ensures { result ≡ packed read_widths (read_reply a) }
-{
-    match a {
-        ReadAnswer::Accepted(l) => packed_counts(l),
-        ReadAnswer::Refused(r) => packed_refusal(r),
+    ghost reply = { read_reply };
+
+    #[tactic(auto, unfolding(crate::specs::Packed::packed, crate::specs::Packed::pack))]
+    fn pack(self) -> u64 {
+        let above = self.events as u64 + 256 * (self.questions as u64 + 256 * (self.list as u64));
+        self.stations as u64 + 256 * above
     }
+
+    ghost refuses = { λ r. refl };
 }
 
-// Write's reply, and Merge's: the log's length, or a refusal.
-pub fn packed_write(a: WriteAnswer) -> u64
-    requires { Fair write_widths (write_reply a) }
-    ensures { result ≡ packed write_widths (write_reply a) }
-{
-    match a {
-        WriteAnswer::Written(n) => n as u64,
-        WriteAnswer::Refused(r) => packed_refusal(r),
+// Write, Merge and Answer: the length of what was written.
+impl Pack for usize {
+    ghost widths = { write_widths };
+
+    ghost reply = { write_reply };
+
+    #[tactic(auto, unfolding(crate::specs::Packed::packed, crate::specs::Packed::pack))]
+    fn pack(self) -> u64 {
+        self as u64
     }
+
+    ghost refuses = { λ r. refl };
 }
 
-// Forecast's five values, the first in the lowest five bits.
-fn packed_figures(f: Forecast) -> u64
-    requires { (f.width < 2 ^ 5) × (f.bars < 2 ^ 5) × (f.held < 2 ^ 6) × (f.cells < 2 ^ 17) × (f.ceiling < 2 ^ 24) }
-    ensures { result ≡ packed forecast_widths (gives (figures f)) }
-{
-    let room = f.cells as u64 + 0x0002_0000 * (f.ceiling as u64);
-    f.width as u64 + 32 * (f.bars as u64 + 32 * (f.held as u64 + 64 * room))
-}
+// Forecast: five figures.
+impl Pack for Forecast {
+    ghost widths = { forecast_widths };
 
-// Forecast's reply: the figures, or a refusal.
-pub fn packed_forecast(a: ForecastAnswer) -> u64
-    requires { Fair forecast_widths (forecast_reply a) }
-    ensures { result ≡ packed forecast_widths (forecast_reply a) }
-{
-    match a {
-        ForecastAnswer::Given(f) => packed_figures(f),
-        ForecastAnswer::Refused(r) => packed_refusal(r),
+    ghost reply = { forecast_reply };
+
+    #[tactic(auto, unfolding(crate::specs::Packed::packed, crate::specs::Packed::pack))]
+    fn pack(self) -> u64 {
+        let room = self.cells as u64 + 0x0002_0000 * (self.ceiling as u64);
+        self.width as u64 + 32 * (self.bars as u64 + 32 * (self.held as u64 + 64 * room))
     }
+
+    ghost refuses = { λ r. refl };
 }
 
-// Answer's reply: the line's length, or a refusal.
-pub fn packed_answer(a: LineAnswer) -> u64
-    requires { Fair answer_widths (line_reply a) }
-    ensures { result ≡ packed answer_widths (line_reply a) }
-{
-    match a {
-        LineAnswer::Written(n) => n as u64,
-        LineAnswer::Refused(r) => packed_refusal(r),
+// Holds: 1 for yes, 0 for no.
+impl Pack for bool {
+    ghost widths = { holds_widths };
+
+    ghost reply = { holds_reply };
+
+    #[tactic(auto, unfolding(crate::specs::Packed::packed, crate::specs::Packed::pack))]
+    fn pack(self) -> u64 {
+        u64::from(self)
     }
+
+    ghost refuses = { λ r. refl };
 }
 
-// Holds' reply: 1 for yes, 0 for no, or a refusal.
-pub fn packed_holds(a: HoldsAnswer) -> u64
-    requires { Fair holds_widths (holds_reply a) }
-    ensures { result ≡ packed holds_widths (holds_reply a) }
+// A reply as one number: its values, or a refusal's number in the highest five bits and its line below.
+#[tactic(auto, unfolding(crate::specs::Packed::packed))]
+pub fn packed<T: Pack>(reply: Result<T, Refusal>) -> u64
+    requires { Fair T.widths (T.reply reply) }
+    ensures { result ≡ packed T.widths (T.reply reply) }
 {
-    match a {
-        HoldsAnswer::Yes => 1,
-        HoldsAnswer::No => 0,
-        HoldsAnswer::Refused(r) => packed_refusal(r),
+    match reply {
+        Ok(values) => values.pack(),
+        Err(refusal) => u64::from(u8::from(refusal.fault)) * HIGHEST + refusal.line as u64,
     }
 }

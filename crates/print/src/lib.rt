@@ -4,7 +4,7 @@
 ghost use Rattle.std.specs.Prelude.{◌≡◌, List, ◌++◌, ℕ, ◌≤◌, length, take, drop};
 ghost use Rattle.model.specs.Operations.{printed};
 
-use model::Log;
+use model::{Log, Refusal};
 use opened::answer_all;
 
 // What the program asks for: one byte more than a log may have, so that it sees a log that is too long.
@@ -20,25 +20,22 @@ pub fn print_log(log: &[u8], out: &mut [u8; PRINTED]) -> usize
 {
     let mut list = [0u8; Log::LIST];
     let mut store = [0u8; Log::STORE];
-    let loaded = load::load(limits::print_limits(), log, &mut list, &mut store);
-    let outcome = loaded.outcome;
-    match outcome {
-        load::Acceptance::Refused(refusal) => {
-            let fault = refusal.fault;
-            line::put_refusal(replies::number(fault), refusal.line, out)
+    match load::load(limits::print_limits(), log, &mut list, &mut store) {
+        Ok(loaded) => answer_all(&list, &store, loaded, out),
+        Err(unread) => {
+            let Refusal { fault, line } = unread.refusal;
+            line::put_refusal(u8::from(fault), line, out)
         }
-        load::Acceptance::Accepted => { answer_all(&list, &store, loaded, out) }
     }
 }
 
-// What is printed for a file, at the front of `out`; hands back its length. The first `got` bytes of `input` are the file's, all of
-// them or as many as `input` holds.
-pub fn run(input: &[u8; INPUT], got: usize, out: &mut [u8; PRINTED]) -> usize
-    ensures value { (result ≡ length (printed (take got input.now))) × (result ≤ length out.new) }
-    ensures out_after { out.new ≡ printed (take got input.now) ++ drop result out.old }
-    ensures whole_file { (file : List ℕ) → take got input.now ≡ take (length input.now) file → (result ≡ length (printed file)) × (out.new ≡ printed file ++ drop result out.old) }
+// What is printed for a file, at the front of `out`; hands back its length. `input` is the file, or its first bytes where it has more
+// than `INPUT` of them.
+// Beside print_log: the same, with what it says of a whole file, of which no more than `INPUT` bytes need be read.
+pub fn run(input: &[u8], out: &mut [u8; PRINTED]) -> usize
+    ensures value { (result ≡ length (printed input.now)) × (result ≤ length out.new) }
+    ensures out_after { out.new ≡ printed input.now ++ drop result out.old }
+    ensures whole_file { (file : List ℕ) → input.now ≡ take INPUT file → (result ≡ length (printed file)) × (out.new ≡ printed file ++ drop result out.old) }
 {
-    let n = if got < INPUT { got } else { INPUT };
-    let all: &[u8] = input;
-    print_log(&all[..n], out)
+    print_log(input, out)
 }

@@ -1,10 +1,7 @@
 -- Where a case stands.
-use Rattle.std.specs.Prelude.{ℕ, ◌≤◌, ◌<◌}
+use Rattle.std.specs.Prelude.{◌≡◌, ℕ, List, ◌++◌, length}
 use Rattle.trial.specs.declared.Case.{Case}
 
--- A case that starts at `at` has its parts behind that, in order and within n bytes.
-pub record Within (n at : ℕ) (c : Case) : Type 0 where
-  pub starts : at < c.cut
-  pub cut_first : c.cut ≤ c.data
-  pub then_data : c.data ≤ c.end
-  pub ends : c.end ≤ n
+-- A case in front of an input has its parts behind its first bytes, in order; the rest stands behind them.
+pub record Within (input : List ℕ) (c : Case) (rest : List ℕ) : Type 0 where
+  pub parts : (head : List ℕ) × (length head ≡ 10) × (input ≡ head ++ (c.cut.now ++ (c.data.now ++ rest)))

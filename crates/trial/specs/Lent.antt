@@ -1,7 +1,7 @@
 -- What lent slices hold before a call.
-use Rattle.std.specs.Prelude.{ℕ, Bool, true, ◌&&◌, List, [], ◌∷◌, eqb}
+use Rattle.std.specs.Prelude.{ℕ, Bool, List, ◌==◌}
+use Rattle.std.specs.List.{list_all}
 
 -- Is each byte the one that is lent?
-unfoldable pub lent : List ℕ → Bool
-lent [] = true
-lent (b ∷ l) = eqb b 165 && lent l
+abbrev pub lent : List ℕ → Bool
+lent = list_all (λ b. b == 165)

@@ -1,50 +1,44 @@
--- `answer` meets its contract: each refusal and the line are those of `answer_op`, and demand 3 follows. Assumes nothing.
-use mathlib.Core.Path.{refl, sym, ◌∙◌}
-use native.Mathlib.Omega.{arith}
-use borrow.Author.Rules.{rules}
-use Rattle.load.proofs.Loads.{no_larger}
+-- Each refusal and the line are those of `answer_op`, and what is promised follows.
+use mathlib.Core.Path.{sym, ap, ◌∙◌}
+use Rattle.std.proofs.Common.{arith}
+use Rattle.model.specs.Reply.{refusal, line_reply}
 use Rattle.opening.proofs.Logs.{below}
-use Rattle.codec.proofs.Suited.{same_within}
-use Rattle.opening.proofs.Openings.{holding, poses-is, to_poses, to_shut}
+use Rattle.opening.proofs.Openings.{poses-is, unread-is}
 use Rattle.opening.proofs.Room.{roomy}
 use Rattle.answer.proofs.Replies.{answer-shut, answer-cramped, answer-short, answer-line, met_refused, met_written}
 use Rattle.answer.proofs.answer.Goals as goal
 
-pub open_log-loaded-requires : goal.open_log-loaded-requires
-open_log-loaded-requires c = record { no_larger = no_larger _ c.limits.ensures; list_len = search rules }
+pub cramped-requires-clause-question_lt_questions : goal.cramped-requires-clause-question_lt_questions
+cramped-requires-clause-question_lt_questions c = let p = rw c.limits.ensures at c.in_ok-loaded.ensures.opens in (below p.accepts _ p.question p.is, omega (arith, p.accepts.short, c.open_log.array_long))
 
-pub cramped-tight-requires : goal.cramped-tight-requires
-cramped-tight-requires c =
-    let o = c.open_log-loaded in
-    let p = to_poses _ _ c.limits.ensures _ _ _ _ _ _ c.open_log-loaded.ensures.opens c.in-Accepted.is in
-    record { question_lt_questions = (below p.accepts _ p.question p.is, omega (arith, p.accepts.short, o.auto)); held = (_, holding same_within p.accepts) }
+pub answer_one-requires : goal.answer_one-requires
+answer_one-requires c =
+    let o = c.open_log in
+    let p = rw c.limits.ensures at c.in_ok-loaded.ensures.opens in
+    let room = roomy _ _ _ _ (sym (c.cramped.ensures _ _ _ p.accepts p.question p.is) ∙ c.if-cramped.false) in
+    record { length_in_bounds = (omega (arith, p.accepts.short, o.array_long), room.1, omega arith); poses = (_, p, room.0) }
 
-pub returns-then-tight : goal.returns-then-tight
-returns-then-tight c =
-    let p = to_poses _ _ c.limits.ensures _ _ _ _ _ _ c.open_log-loaded.ensures.opens c.in-Accepted.is in
-    let r = met_refused _ _ _ _ _ _ 11 0 c.refused.ensures (answer-cramped _ _ _ _ _ _ _ (poses-is _ _ _ _ _ _ p) (sym (c.cramped-tight.ensures _ _ _ p.accepts p.question p.is) ∙ c.if-tight.true)) in
+pub returns-in_err-loaded : goal.returns-in_err-loaded
+returns-in_err-loaded c =
+    let u = c.in_err-loaded.field-0.0 in
+    let r = met_refused _ _ _ _ _ _ _ _ (ap line_reply (unread-is c.from_residual.result u c.from_residual.ensures.1)) (answer-shut _ _ _ _ _ _ _ (rw c.limits.ensures at c.in_err-loaded.ensures.opens)) in
     record { result_value = r.0; out_after = r.1.0; kept = r.1.1.0; answered = r.1.1.1 }
 
-pub returns-then-short : goal.returns-then-short
-returns-then-short c =
-    let p = to_poses _ _ c.limits.ensures _ _ _ _ _ _ c.open_log-loaded.ensures.opens c.in-Accepted.is in
-    let r = met_refused _ _ _ _ _ _ 12 0 c.refused-then-short.ensures (answer-short _ _ _ _ _ _ _ (poses-is _ _ _ _ _ _ p) (sym (c.cramped-tight.ensures _ _ _ p.accepts p.question p.is) ∙ c.if-tight.false) c.if-short.true) in
+pub returns-then-cramped : goal.returns-then-cramped
+returns-then-cramped c =
+    let p = rw c.limits.ensures at c.in_ok-loaded.ensures.opens in
+    let r = met_refused _ _ _ _ _ _ 11 0 (ap refusal c.into.ensures) (answer-cramped _ _ _ _ _ _ _ (poses-is _ _ _ _ _ _ p) (sym (c.cramped.ensures _ _ _ p.accepts p.question p.is) ∙ c.if-cramped.true)) in
     record { result_value = r.0; out_after = r.1.0; kept = r.1.1.0; answered = r.1.1.1 }
 
-pub answer_one-size-requires : goal.answer_one-size-requires
-answer_one-size-requires c =
-    let o = c.open_log-loaded in
-    let p = to_poses _ _ c.limits.ensures _ _ _ _ _ _ c.open_log-loaded.ensures.opens c.in-Accepted.is in
-    let room = roomy _ _ _ _ (sym (c.cramped-tight.ensures _ _ _ p.accepts p.question p.is) ∙ c.if-tight.false) in
-    record { length_in_bounds = (omega (arith, p.accepts.short, o.auto), omega (arith, o.auto), room.1, c.if-short.false); poses = (_, p, room.0) }
-
-pub returns-in-Refused : goal.returns-in-Refused
-returns-in-Refused c = let r = met_refused _ _ _ _ _ _ _ _ refl (answer-shut _ _ _ _ _ _ _ (to_shut _ _ c.limits.ensures _ _ _ _ _ _ c.open_log-loaded.ensures.opens _ c.in-Refused.is)) in
+pub returns-then-out-lt-LINE : goal.returns-then-out-lt-LINE
+returns-then-out-lt-LINE c =
+    let p = rw c.limits.ensures at c.in_ok-loaded.ensures.opens in
+    let r = met_refused _ _ _ _ _ _ 12 0 (ap refusal c.into-then-out-lt-LINE.ensures) (answer-short _ _ _ _ _ _ _ (poses-is _ _ _ _ _ _ p) (sym (c.cramped.ensures _ _ _ p.accepts p.question p.is) ∙ c.if-cramped.false) (omega arith)) in
     record { result_value = r.0; out_after = r.1.0; kept = r.1.1.0; answered = r.1.1.1 }
 
-pub returns-else-short : goal.returns-else-short
-returns-else-short c =
-    let p = to_poses _ _ c.limits.ensures _ _ _ _ _ _ c.open_log-loaded.ensures.opens c.in-Accepted.is in
+pub returns : goal.returns
+returns c =
+    let p = rw c.limits.ensures at c.in_ok-loaded.ensures.opens in
     let a = c.args in
-    let r = met_written _ _ a.ws.now a.bs.now _ _ (answer-line _ _ _ _ _ _ _ (poses-is _ _ _ _ _ _ p) (sym (c.cramped-tight.ensures _ _ _ p.accepts p.question p.is) ∙ c.if-tight.false) c.if-short.false) _ _ (c.answer_one-size.ensures _ p) in
+    let r = met_written _ _ a.ws.now a.bs.now _ _ (answer-line _ _ _ _ _ _ _ (poses-is _ _ _ _ _ _ p) (sym (c.cramped.ensures _ _ _ p.accepts p.question p.is) ∙ c.if-cramped.false) (omega arith)) _ _ (c.answer_one.ensures _ p) in
     record { result_value = r.0; out_after = r.1.0; kept = r.1.1.0; answered = r.1.1.1 }

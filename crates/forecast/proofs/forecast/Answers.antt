@@ -1,28 +1,21 @@
--- `forecast` meets its contract: a refusal is that of opening, and the figures those of the question. Assumes nothing.
-use native.Mathlib.Omega.{arith}
-use borrow.Author.Rules.{rules}
-use Rattle.load.proofs.Loads.{no_larger}
+-- A refusal is that of opening, and the figures those of the question.
+use Rattle.std.proofs.Common.{arith}
 use Rattle.opening.proofs.Logs.{below}
-use Rattle.codec.proofs.Suited.{same_within}
-use Rattle.opening.proofs.Openings.{holding, poses-is, to_poses, to_shut}
+use Rattle.opening.proofs.Openings.{poses-is, unread-is}
 use Rattle.forecast.proofs.Replies.{met_shut, met_given}
 use Rattle.forecast.proofs.forecast.Goals as goal
 
-pub open_log-loaded-requires : goal.open_log-loaded-requires
-open_log-loaded-requires c = record { no_larger = no_larger _ c.limits.ensures; list_len = search rules }
+pub foresee-requires-clause-question_lt_questions : goal.foresee-requires-clause-question_lt_questions
+foresee-requires-clause-question_lt_questions c = let p = rw c.limits.ensures at c.in_ok-loaded.ensures.opens in (below p.accepts _ p.question p.is, omega (arith, p.accepts.short, c.open_log.array_long))
 
-pub foresee-requires : goal.foresee-requires
-foresee-requires c =
-    let o = c.open_log-loaded in
-    let p = to_poses _ _ c.limits.ensures _ _ _ _ _ _ o.ensures.opens c.in-Accepted.is in
-    record { question_lt_questions = (below p.accepts _ p.question p.is, omega (arith, p.accepts.short, o.auto)); held = (_, holding same_within p.accepts) }
+pub returns-in_err-loaded : goal.returns-in_err-loaded
+returns-in_err-loaded c =
+    let u = c.in_err-loaded.field-0.0 in
+    let r = met_shut _ _ u.refusal (rw c.limits.ensures at c.in_err-loaded.ensures.opens) in
+    rw (unread-is c.from_residual.result u c.from_residual.ensures.1) (record { result_value = r.0; foretold = r.1 })
 
-pub returns-in-Refused : goal.returns-in-Refused
-returns-in-Refused c = let r = met_shut _ _ c.in-Refused.refusal (to_shut _ _ c.limits.ensures _ _ _ _ _ _ c.open_log-loaded.ensures.opens _ c.in-Refused.is) in
-    record { result_value = r.0; foretold = r.1 }
-
-pub returns-in-Accepted : goal.returns-in-Accepted
-returns-in-Accepted c =
-    let p = to_poses _ _ c.limits.ensures _ _ _ _ _ _ c.open_log-loaded.ensures.opens c.in-Accepted.is in
+pub returns : goal.returns
+returns c =
+    let p = rw c.limits.ensures at c.in_ok-loaded.ensures.opens in
     let r = met_given _ _ _ p.question (poses-is _ _ _ _ _ _ p) _ (c.foresee.ensures _ _ _ p.accepts p.question p.is) in
     record { result_value = r.0; foretold = r.1 }

@@ -1,27 +1,17 @@
--- `test_cut` meets its contract: the question is found and worked out over the computation that was laid out. Assumes nothing.
-use mathlib.Core.Path.{sym, ◌∙◌}
-use borrow.Author.Rules.{rules}
-use Rattle.codec.proofs.Suited.{same_within}
-use Rattle.opening.proofs.Openings.{holding}
+-- The question is found and worked out over the computation that was laid out.
 use Rattle.question.proofs.Posed.{question}
 use Rattle.opening.proofs.Logs.{below, good-at}
 use Rattle.opened.proofs.test_cut.Goals as goal
 
-pub lay-x-requires : goal.lay-x-requires
-lay-x-requires c = let p = c.requires in
-    record { store_len = (p.length_in_bounds.1, search rules, search rules); held = (_, holding same_within p.poses.1.accepts) }
+pub asked-q-requires-clause-question_lt_questions : goal.asked-q-requires-clause-question_lt_questions
+asked-q-requires-clause-question_lt_questions c = let p = c.requires in let o = p.poses.1 in (below o.accepts _ o.question o.is, p.length_in_bounds.0)
 
-pub asked-q-requires : goal.asked-q-requires
-asked-q-requires c = let p = c.requires in let o = p.poses.1 in
-    record { question_lt_questions = (below o.accepts _ o.question o.is, p.length_in_bounds.0); held = (_, holding same_within o.accepts) }
-
-pub true_at-requires : goal.true_at-requires
-true_at-requires c =
-    let p = c.requires in
-    let o = p.poses.1 in
+pub true_at-requires-clause-question : goal.true_at-requires-clause-question
+true_at-requires-clause-question c =
+    let p = c.requires.poses in
+    let o = p.1 in
     let a = o.accepts in
-    let l = c.lay-x.ensures in
-    record { question = (_, o.question, question _ o.question (good-at a _ o.question o.is) _ (c.asked-q.ensures _ _ _ a o.question o.is) (l.1 _ _ _ a), p.poses.2); cut_len = (p.length_in_bounds.2 ∙ sym l.0, p.length_in_bounds.3) }
+    (_, o.question, question _ o.question (good-at a _ o.question o.is) _ (c.asked-q.ensures _ _ _ a o.question o.is) (c.lay-x.ensures.1 _ _ _ a), p.2)
 
 pub returns : goal.returns
 returns c = λ log o.
