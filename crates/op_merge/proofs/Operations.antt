@@ -1,9 +1,10 @@
 -- Laws of Merge: what is handed back and written follows from what reading the two logs comes to. Assumes nothing.
 use mathlib.Core.Path.{◌≡◌, refl, sym, ap, ◌∙◌}
-use mathlib.Core.Bool.{true, false, ◌||◌}
+use mathlib.Core.Bool.{Bool, true, false, ◌||◌}
 use mathlib.Core.List.{List, [], ◌∷◌}
 use Prim.Native.Nat.{ℕ, ◌+◌, ◌<◌, ◌≤◌}
 use borrow.Author.Tests.{lt-ltb, le-ltb}
+use Rattle.std.proofs.lemmas.Bool.{ltb-false}
 use lib.Dec.{ltb}
 use lib.ListN.{length, take}
 use Rattle.model.specs.Limits.{limits}
@@ -31,6 +32,19 @@ accepts_opened {log} a = record {
   messages = a.holds.messages;
 }
 
+-- WHAT THE TESTS SAY
+
+pub not_wide : {b : Bool} {m n : ℕ} → b ≡ ltb m n → b ≡ false → n ≤ m
+not_wide {b} {m} {n} e f = ltb-false m n (sym e ∙ f)
+
+neither : (a b : Bool) → (a || b) ≡ false → (a ≡ false) × (b ≡ false)
+neither false false e = (refl, refl)
+neither false true e = cc
+neither true b e = cc
+
+pub few : {b : Bool} {m n k l : ℕ} → b ≡ (ltb m n || ltb k l) → b ≡ false → (n ≤ m) × (l ≤ k)
+few {b} {m} {n} {k} {l} e f = let p = neither (ltb m n) (ltb k l) (sym e ∙ f) in (ltb-false m n p.0, ltb-false k l p.1)
+
 -- TWO ACCEPTED LOGS
 
 module _ {x y : Reading} {s t : State} {list more : List ℕ} (a : Opened x s list) (b : Opened y t more) (out : List ℕ) where
@@ -42,6 +56,9 @@ module _ {x y : Reading} {s t : State} {list more : List ℕ} (a : Opened x s li
   unfolding too_many_together
   many_is = rw (a.events, b.events, a.messages, b.messages) refl
 
+  pub many_together : {b : Bool} → b ≡ (ltb limits.events (s.events + t.events) || ltb limits.messages (s.messages + t.messages)) → b ≡ true → too_many_together limits x y ≡ true
+  many_together e h = many_is ∙ sym e ∙ h
+
   pub both_wide : limits.stations < s.stations + t.stations → Merging (accepted x) (accepted y) out (refuses 17 0) out
   unfolding merge_effect
   both_wide h = let z = wide_is ∙ lt-ltb limits.stations (s.stations + t.stations) h in (rw z refl, rw z refl)
@@ -50,7 +67,7 @@ module _ {x y : Reading} {s t : State} {list more : List ℕ} (a : Opened x s li
     narrow_is : too_wide_together limits x y ≡ false
     narrow_is = wide_is ∙ le-ltb limits.stations (s.stations + t.stations) narrow
 
-    both_many : too_many_together limits x y ≡ true → Merging (accepted x) (accepted y) out (refuses 18 0) out
+    pub both_many : too_many_together limits x y ≡ true → Merging (accepted x) (accepted y) out (refuses 18 0) out
     unfolding merge_effect
     both_many i = let z = narrow_is in (rw (z, i) refl, rw (z, i) refl)
 
@@ -96,7 +113,7 @@ abbrev pub MergeMet : List ℕ → List ℕ → List ℕ → Reply → List ℕ 
 MergeMet first second out reply out' = (reply ≡ (merge_op limits first second out).reply) × ((out' ≡ (merge_op limits first second out).output) × Merges limits first second reply out')
 
 module _ (first second out : List ℕ) where
-  merge_met : {reply : Reply} {out' : List ℕ} → Merging (read_log limits first) (read_log limits second) out reply out' → MergeMet first second out reply out'
+  pub merge_met : {reply : Reply} {out' : List ℕ} → Merging (read_log limits first) (read_log limits second) out reply out' → MergeMet first second out reply out'
   unfolding merge_op
   merge_met (e, u) = (e, (u, rw (e, u) (merge_kept suitable first second out)))
 

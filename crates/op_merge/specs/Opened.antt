@@ -1,5 +1,5 @@
 -- What Merge has of a log that was accepted: its state and its frame list.
-use Rattle.std.specs.Prelude.{◌≡◌, ℕ, false, ◌||◌, List, length}
+use Rattle.std.specs.Prelude.{◌≡◌, ◌≤◌, ℕ, false, ◌||◌, List, length}
 use Rattle.model.specs.Limits.{limits}
 use Rattle.model.specs.Frames.{list_of}
 use Rattle.model.specs.Computation.{stations, event_count}
@@ -18,6 +18,10 @@ pub record Opened (r : Reading) (s : State) (list : List ℕ) : Type 0 where
   pub stations : s.stations ≡ stations r.computation
   pub events : s.events ≡ event_count r.computation
   pub messages : s.messages ≡ length r.computation.messages
+
+-- The numbers of a state keep the limits.
+abbrev pub Within : State → Type 0
+Within s = (s.stations ≤ limits.stations) × (s.events ≤ limits.events) × (s.messages ≤ limits.messages)
 
 -- The first log and the second, each beside the other.
 abbrev pub first_side : State → State → Side

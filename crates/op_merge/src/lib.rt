@@ -1,14 +1,14 @@
 // The operation Merge: two logs written as one.
 #![tactic(auto)]
 
-ghost use Rattle.std.specs.Prelude.{◌≡◌, ◌≤◌, ◌||◌, length};
+ghost use Rattle.std.specs.Prelude.{◌≡◌, ◌+◌, ◌≤◌, ltb, ◌||◌, length};
 ghost use Rattle.model.specs.Limits.{limits};
 ghost use Rattle.model.specs.Reading.{Reading};
 ghost use Rattle.model.specs.Reply.{write_reply};
 ghost use Rattle.model.specs.Operations.{merge_op, merged_log};
 ghost use Rattle.model.specs.Promise.{Merges};
 ghost use Rattle.cells.specs.Put.{put_of};
-ghost use Rattle.op_merge.specs.Opened.{Opened, Fitting};
+ghost use Rattle.op_merge.specs.Opened.{Opened, Within, Fitting};
 
 use frame::State;
 use frames::frame_at;
@@ -52,6 +52,22 @@ fn put_frames(s: State, list: &[u8], t: State, more: &[u8], out: &mut [u8]) -> u
     put_part(Part::Questions, one, list, out, messages)
 }
 
+// More stations together than a log may have?
+fn too_wide(s: State, t: State) -> bool
+    requires { Within s × Within t }
+    ensures { result ≡ ltb limits.stations (s.stations + t.stations) }
+{
+    Log::STATIONS < s.stations + t.stations
+}
+
+// More events, or more messages?
+fn too_many(s: State, t: State) -> bool
+    requires { Within s × Within t }
+    ensures { result ≡ (ltb limits.events (s.events + t.events) || ltb limits.messages (s.messages + t.messages)) }
+{
+    Log::EVENTS < s.events + t.events || Log::MESSAGES < s.messages + t.messages
+}
+
 // Writes two logs as one; nothing lent is touched before the last check has passed.
 pub fn merge(first: &[u8], second: &[u8], out: &mut [u8]) -> Result<usize, Refusal>
     ensures result_value { write_reply result ≡ (merge_op limits first.now second.now out.old).reply }
@@ -59,16 +75,19 @@ pub fn merge(first: &[u8], second: &[u8], out: &mut [u8]) -> Result<usize, Refus
     ensures merges { Merges limits first.now second.now (write_reply result) out.new }
 {
     let mut list = [0u8; Log::LIST];
-    let mut more = [0u8; Log::LIST];
     let mut store = [0u8; Log::STORE];
     let one = load(limits(), first, &mut list, &mut store)?;
+    // Made here: a log that is refused pays for no second list.
+    let mut more = [0u8; Log::LIST];
     let two = load(limits(), second, &mut more, &mut store)?;
     let s = one.state;
     let t = two.state;
-    if Log::STATIONS < s.stations + t.stations {
+    let wide = too_wide(s, t);
+    let many = too_many(s, t);
+    if wide {
         return Err(Fault::TooWide.into());
     }
-    if Log::EVENTS < s.events + t.events || Log::MESSAGES < s.messages + t.messages {
+    if many {
         return Err(Fault::TooMany.into());
     }
     if out.len() < Log::BYTES {
