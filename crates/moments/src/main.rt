@@ -8,6 +8,6 @@ fn main(rt: HostRuntime) -> io::Result<()> {
     let mut input = [0u8; print::INPUT];
     let got = read_input(&rt, &mut input)?;
     let mut out = [0u8; print::PRINTED];
-    let size = print::run(&input[..got], &mut out);
+    let size = print::run(&input, got, &mut out);
     write_bytes(&rt, &out[..size])
 }

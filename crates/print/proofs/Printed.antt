@@ -1,9 +1,11 @@
 -- What is printed for a log, and for a file.
-use mathlib.Core.Path.{◌≡◌, sym, ap, ◌∙◌}
+use mathlib.Core.Path.{◌≡◌, sym, ap, subst, ◌∙◌}
 use mathlib.Core.List.{List, ◌++◌}
+use mathlib.Core.Logic.{◌⊎◌, inl, inr}
 use Prim.Native.Nat.{ℕ, ◌≤◌}
 use native.Mathlib.Omega.{arith}
 use lib.ListN.{length, take, drop, length-append}
+use lib.Seq.{take_all}
 use Rattle.model.specs.Limits.{print_limits}
 use Rattle.model.specs.Answer.{refusal_line}
 use Rattle.model.specs.Reading.{Reading, refused, accepted, read_log}
@@ -30,9 +32,17 @@ printed-refusal log k n e x same = rw (e, same)
 
 -- WHAT IS PRINTED FOR A FILE
 
--- What is printed for the first bytes of a file, as many as there is room for, is printed for the file.
-pub printed_file : (input was out : List ℕ) (r : ℕ) → (r ≡ length (printed input)) × (out ≡ printed input ++ drop r was)
-    → (file : List ℕ) → input ≡ take input_size file → (r ≡ length (printed file)) × (out ≡ printed file ++ drop r was)
-printed_file input was out r p file e =
-    let all : printed input ≡ printed file = ap printed e ∙ printed-first input_size file (omega arith) in
-    (p.0 ∙ ap length all, p.1 ∙ ap (λ (l : List ℕ). l ++ drop r was) all)
+-- More bytes than there are count as all of them.
+pub take-most : (l : List ℕ) (n m : ℕ) → (n ≡ m) ⊎ ((length l ≤ n) × (length l ≤ m)) → take n l ≡ take m l
+take-most l n m (inl e) = ap (λ (k : ℕ). take k l) e
+take-most l n m (inr h) = take_all n l h.0 ∙ sym (take_all m l h.1)
+
+-- What is printed for the bytes got is printed for each file whose first bytes they are, as many as there is room for.
+pub printed_file : (input was out : List ℕ) (got n r : ℕ) → input_size ≤ length input → take n input ≡ take got input
+    → ((r ≡ length (printed (take n input))) × (r ≤ length out)) × (out ≡ printed (take n input) ++ drop r was)
+    → ((r ≡ length (printed (take got input))) × (r ≤ length out))
+    × ((out ≡ printed (take got input) ++ drop r was) × ((file : List ℕ) → take got input ≡ take (length input) file → (r ≡ length (printed file)) × (out ≡ printed file ++ drop r was)))
+printed_file input was out got n r long same p =
+    let q = subst (λ l. ((r ≡ length (printed l)) × (r ≤ length out)) × (out ≡ printed l ++ drop r was)) same p in
+    let all : (file : List ℕ) → take got input ≡ take (length input) file → printed (take got input) ≡ printed file = λ file e. ap printed e ∙ printed-first (length input) file long in
+    (q.0, (q.1, λ file e. (q.0.0 ∙ ap length (all file e), q.1 ∙ ap (λ (l : List ℕ). l ++ drop r was) (all file e))))

@@ -29,13 +29,13 @@ pub fn print_log(log: &[u8], out: &mut [u8; PRINTED]) -> usize
     }
 }
 
-// What is printed for a file, at the front of `out`; hands back its length. `input` is the file, or its first bytes where it has more
-// than `INPUT` of them.
-// Beside print_log: the same, with what it says of a whole file, of which no more than `INPUT` bytes need be read.
-pub fn run(input: &[u8], out: &mut [u8; PRINTED]) -> usize
-    ensures value { (result ≡ length (printed input.now)) × (result ≤ length out.new) }
-    ensures out_after { out.new ≡ printed input.now ++ drop result out.old }
-    ensures whole_file { (file : List ℕ) → input.now ≡ take INPUT file → (result ≡ length (printed file)) × (out.new ≡ printed file ++ drop result out.old) }
+// What is printed for a file, at the front of `out`; hands back its length. The first `got` bytes of `input` are the file's, all of
+// them or as many as `input` holds.
+pub fn run(input: &[u8; INPUT], got: usize, out: &mut [u8; PRINTED]) -> usize
+    ensures value { (result ≡ length (printed (take got input.now))) × (result ≤ length out.new) }
+    ensures out_after { out.new ≡ printed (take got input.now) ++ drop result out.old }
+    ensures whole_file { (file : List ℕ) → take got input.now ≡ take (length input.now) file → (result ≡ length (printed file)) × (out.new ≡ printed file ++ drop result out.old) }
 {
-    print_log(input, out)
+    let n = if got < INPUT { got } else { INPUT };
+    print_log(&input[..n], out)
 }
