@@ -45,6 +45,16 @@ no_sign {k} (inl (Value, e)) h g = let b : token_byte k ≡ 1 = ap token_byte e 
 no_sign {k} (inl (Panel, e)) h g = let b : token_byte k ≡ 8 = ap token_byte e in omega (arith, b)
 no_sign {k} (inr e) h g = let b : token_byte k ≡ 7 = ap token_byte e in omega (arith, b)
 
+-- A token that is no sign has no sign's byte.
+pub other_sign : (k : Token) → (k ≡ Not → ⊥) → (k ≡ And → ⊥) → (k ≡ Or → ⊥) → (k ≡ Possibly → ⊥) → (k ≡ Always → ⊥) → 1 < token_byte k → token_byte k < 7 → ⊥
+other_sign (Range a) n a' o p l = no_sign (inl (a, refl))
+other_sign Clear n a o p l = no_sign (inr refl)
+other_sign Not n a o p l = absurd (n refl)
+other_sign And n a o p l = absurd (a refl)
+other_sign Or n a o p l = absurd (o refl)
+other_sign Possibly n a o p l = absurd (p refl)
+other_sign Always n a o p l = absurd (l refl)
+
 -- A byte that is no token.
 pub nothing_unknown : (t : ℕ) (q : List ℕ) → ((token : Token) → token_byte token ≡ t → ⊥) → first (formulas (t ∷ q)) ≡ none
 unfolding sign first range_token

@@ -25,15 +25,17 @@ impl From<u8> for Form {
     ghost from_gives = { FormOf };
 
     fn from(byte: u8) -> Form {
-        match Token::try_from(byte) {
-            Ok(Token::Range(_)) => Form::Atom,
-            Ok(Token::Clear) => Form::Atom,
-            Ok(Token::Not) => Form::Not,
-            Ok(Token::And) => Form::Two { and: true },
-            Ok(Token::Or) => Form::Two { and: false },
-            Ok(Token::Possibly) => Form::Possibly,
-            Ok(Token::Always) => Form::Always,
-            Err(_) => Form::Atom,
+        let Ok(token) = Token::try_from(byte) else {
+            return Form::Atom;
+        };
+        match token {
+            Token::Not => Form::Not,
+            Token::And => Form::Two { and: true },
+            Token::Or => Form::Two { and: false },
+            Token::Possibly => Form::Possibly,
+            Token::Always => Form::Always,
+            // A token that is no sign: an atom more needs no arm here.
+            _ => Form::Atom,
         }
     }
 }

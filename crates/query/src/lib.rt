@@ -48,12 +48,12 @@ fn modal(possibly: bool, sign: bool, z: Size) -> Size
     longer(z, lift(z.extent, possibly == sign))
 }
 
-// "and" under negation is joined as "or" and the reverse.
-fn paired(and: bool, sign: bool, y: Size, z: Size) -> Size
-    requires { Short y × Short z }
-    ensures { (n : ℕ) (q : List ℕ) → Sized n sign q y → Sized n sign (drop y.used q) z → Sized n sign (pair_byte and ∷ q) result }
+// "and" under negation is joined as "or" and the reverse. By reference, since copies would lie on the stack at each depth of `measure`.
+fn paired(and: bool, sign: bool, y: &Size, z: &Size) -> Size
+    requires { Short y.now × Short z.now }
+    ensures { (n : ℕ) (q : List ℕ) → Sized n sign q y.now → Sized n sign (drop y.now.used q) z.now → Sized n sign (pair_byte and ∷ q) result }
 {
-    together(y, z, join(y.extent, z.extent, and == sign))
+    together(*y, *z, join(y.extent, z.extent, and == sign))
 }
 
 // The size of the formula at the front of q under a sign, where there is one.
@@ -63,7 +63,6 @@ fn measure(q: &[u8], n: usize, sign: bool) -> Option<Size>
 {
     let (t, rest) = q.split_first()?;
     match Token::try_from(*t).ok()? {
-        Token::Range(_) | Token::Clear => leaf(*t, rest, n, sign),
         Token::Not => {
             let z = measure(rest, n, !sign)?;
             Some(longer(z, z.extent))
@@ -71,10 +70,15 @@ fn measure(q: &[u8], n: usize, sign: bool) -> Option<Size>
         token @ (Token::And | Token::Or) => {
             let y = measure(rest, n, sign)?;
             let z = measure(&rest[y.used..], n, sign)?;
-            Some(paired(matches!(token, Token::And), sign, y, z))
+            Some(paired(matches!(token, Token::And), sign, &y, &z))
         }
-        Token::Possibly => Some(modal(true, sign, measure(rest, n, true)?)),
-        Token::Always => Some(modal(false, sign, measure(rest, n, false)?)),
+        token @ (Token::Possibly | Token::Always) => {
+            let possibly = matches!(token, Token::Possibly);
+            let z = measure(rest, n, possibly)?;
+            Some(modal(possibly, sign, z))
+        }
+        // A token that is no sign: an atom more needs no arm here.
+        _ => leaf(*t, rest, n, sign),
     }
 }
 

@@ -45,6 +45,16 @@ range_same Value Panel e = absurd (omega arith)
 range_same Panel Value e = absurd (omega arith)
 range_same Panel Panel e = refl
 
+-- A token that is no sign has no sign's byte.
+pub other_sign : (k : Token) → (k ≡ token.Not → ⊥) → (k ≡ token.And → ⊥) → (k ≡ token.Or → ⊥) → (k ≡ token.Possibly → ⊥) → (k ≡ token.Always → ⊥) → 1 < token_byte k → token_byte k < 7 → ⊥
+other_sign (token.Range x) n a o p l = range_no_sign x
+other_sign token.Clear n a o p l = λ h g. omega arith
+other_sign token.Not n a o p l = absurd (n refl)
+other_sign token.And n a o p l = absurd (a refl)
+other_sign token.Or n a o p l = absurd (o refl)
+other_sign token.Possibly n a o p l = absurd (p refl)
+other_sign token.Always n a o p l = absurd (l refl)
+
 -- The token of an atom.
 pub token_of : (a : Atom) → (t : Token) × (token_byte t ≡ get_or (atom_bytes a) 0 0)
 unfolding atom_bytes
@@ -52,7 +62,7 @@ token_of (in_range x s lo hi) = (token.Range x, refl)
 token_of (clear i j) = (token.Clear, refl)
 
 -- It is a range's or 07.
-token-is : (a : Atom) → (get_or (atom_bytes a) 0 0 ≡ 1 → ⊥) → (get_or (atom_bytes a) 0 0 ≡ 7 → ⊥) → (get_or (atom_bytes a) 0 0 ≡ 8 → ⊥) → ⊥
+pub token-is : (a : Atom) → (get_or (atom_bytes a) 0 0 ≡ 1 → ⊥) → (get_or (atom_bytes a) 0 0 ≡ 7 → ⊥) → (get_or (atom_bytes a) 0 0 ≡ 8 → ⊥) → ⊥
 unfolding atom_bytes
 token-is (in_range x s lo hi) f g h = range-token x f h
 token-is (clear i j) f g h = g refl

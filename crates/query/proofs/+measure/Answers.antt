@@ -8,10 +8,10 @@ use native.Mathlib.Omega.{arith}
 use lib.ListN.{length, take, drop, length-drop}
 use lib.Seq.{take_all}
 use Rattle.model.specs.declared.Token.{Token}
-use Rattle.model.specs.declared.Token.TheVariants.{And, Or}
+use Rattle.model.specs.declared.Token.TheVariants.{And, Or, Possibly, Always}
 use Rattle.model.specs.Codes.{token_byte}
-use Rattle.query.specs.Sizes.{pair_byte}
-use Rattle.atoms.proofs.Tokens.{token_of, no_token, no_sign, nothing_unknown}
+use Rattle.query.specs.Sizes.{pair_byte, modal_byte}
+use Rattle.atoms.proofs.Tokens.{token_of, no_token, other_sign, nothing_unknown}
 use Rattle.query.proofs.Measured as laws
 use Rattle.query.proofs.+measure.Goals as goal
 use Rattle.query.proofs.+measure.Goals.{In_ok-token}
@@ -27,6 +27,11 @@ fall c = omega (arith, c.in_ok-t.ensures.cases.1, c.requires)
 pair_of : {k : Token} → (k ≡ And) ⊎ (k ≡ Or) → (b : Bool) × (token_byte k ≡ pair_byte b)
 pair_of (inl e) = (true, ap token_byte e)
 pair_of (inr e) = (false, ap token_byte e)
+
+-- So have possibly and always.
+modal_of : {k : Token} → (k ≡ Possibly) ⊎ (k ≡ Always) → (b : Bool) × (token_byte k ≡ modal_byte b)
+modal_of (inl e) = (true, ap token_byte e)
+modal_of (inr e) = (false, ap token_byte e)
 
 all-after : (k : ℕ) (q : List ℕ) → take (length q - k) (drop k q) ≡ drop k q
 all-after k q = take_all (length q - k) (drop k q) (omega (arith, length-drop k q))
@@ -61,21 +66,19 @@ paired-requires t c =
     let f = fall (goal.at.paired-requires t c).In_ok-token in
     (laws.sized-short f c.in_ok-y-in-And.ensures, laws.sized-short (omega (arith, f, length-drop c.in_ok-y-in-And.y.used c.in_ok-t.rest.now)) (rw all-after at c.in_ok-z-in-And.ensures))
 
-pub returns-in_err-measure-in-Possibly : goal.returns-in_err-measure-in-Possibly
-returns-in_err-measure-in-Possibly t c = rw (c.from_residual-in_err-measure-in-Possibly.ensures, front (goal.at.returns-in_err-measure-in-Possibly t c).In_ok-token, c.in-Possibly.is) (laws.nothing-modal true _ c.in_err-measure-in-Possibly.ensures)
+pub returns-in_err-z-in-Possibly : goal.returns-in_err-z-in-Possibly
+returns-in_err-z-in-Possibly t c =
+    let p = modal_of c.in-Possibly.is in
+    rw (c.from_residual-in_err-z-in-Possibly.ensures, front (goal.at.returns-in_err-z-in-Possibly t c).In_ok-token, p.1) (laws.nothing-modal p.0 _ c.in_err-z-in-Possibly.ensures)
 
 pub modal-requires : goal.modal-requires
-modal-requires t c = laws.sized-short (fall (goal.at.modal-requires t c).In_ok-token) c.in_ok-measure-in-Possibly.ensures
-
-pub returns-in_err-measure-in-Always : goal.returns-in_err-measure-in-Always
-returns-in_err-measure-in-Always t c = rw (c.from_residual-in_err-measure-in-Always.ensures, front (goal.at.returns-in_err-measure-in-Always t c).In_ok-token, c.in-Always.is) (laws.nothing-modal false _ c.in_err-measure-in-Always.ensures)
-
-pub modal-requires-in-Always : goal.modal-requires-in-Always
-modal-requires-in-Always t c = laws.sized-short (fall (goal.at.modal-requires-in-Always t c).In_ok-token) c.in_ok-measure-in-Always.ensures
+modal-requires t c = laws.sized-short (fall (goal.at.modal-requires t c).In_ok-token) c.in_ok-z-in-Possibly.ensures
 
 -- A token that is no sign.
 pub leaf-requires : goal.leaf-requires
-leaf-requires t c = rw (token_of c.try_from.result c.try_from.ensures c.in_ok-token.ensures.value) at (no_sign c.in-Range.is)
+leaf-requires t c =
+    let d = c.in_default in
+    rw (token_of c.try_from.result c.try_from.ensures c.in_ok-token.ensures.value) at (other_sign c.in_ok-token.token d.not-Not d.not-And d.not-Or d.not-Possibly d.not-Always)
 
-pub returns-in-Range : goal.returns-in-Range
-returns-in-Range t c = rw c.in_ok-t.ensures.cases.0 c.leaf.ensures
+pub returns-in_default : goal.returns-in_default
+returns-in_default t c = rw c.in_ok-t.ensures.cases.0 c.leaf.ensures

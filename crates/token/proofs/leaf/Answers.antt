@@ -1,16 +1,27 @@
 -- Each atom's token by its function; no other token stands there.
 use mathlib.Core.Path.{◌≡◌, sym, ap, ◌∙◌}
-use Prim.Native.Nat.{ℕ}
+use Prim.Native.Nat.{ℕ, ◌<◌}
 use native.Mathlib.Omega.{arith}
 use mathlib.Core.List.{List}
 use mathlib.Core.Bool.{Bool, true}
 use lib.ListN.{get_or}
+use Rattle.model.specs.Atom.{range_token}
 use Rattle.model.specs.Codes.{token_byte}
+use Rattle.model.specs.declared.Aspect.TheVariants.{Value, Panel}
+use Rattle.model.specs.declared.Token.TheVariants.{Range, Clear}
 use Rattle.structure.specs.declared.Run.{Run}
 use Rattle.token.specs.Contract.{Ready}
-use Rattle.token.proofs.Atoms.{head_is, token_of, at_clear, clear-sign}
+use Rattle.token.proofs.Atoms.{head_is, token-is, at_clear, clear-sign}
 use Rattle.token.proofs.Operands as laws
 use Rattle.token.proofs.leaf.Goals as goal
+
+-- The token is an atom's.
+token-there : {s : Bool} {run : Run} {q : List ℕ} {mw mb : ℕ} → Ready s run q mw mb → (1 < get_or q 0 0 → get_or q 0 0 < 7 → ⊥)
+    → (get_or q 0 0 ≡ 1 → ⊥) → (get_or q 0 0 ≡ 7 → ⊥) → (get_or q 0 0 ≡ 8 → ⊥) → ⊥
+token-there r k f g h =
+    let a = laws.ready_atom r k in
+    let e = ap (λ (l : List ℕ). get_or l 0 0) a.1 ∙ head_is a.0 r.rest in
+    token-is a.0 (λ z. f (e ∙ z)) (λ z. g (e ∙ z)) (λ z. h (e ∙ z))
 
 -- 07 is worked out as true.
 as-true : {s : Bool} {run : Run} {q : List ℕ} {mw mb : ℕ} → Ready s run q mw mb → get_or q 0 0 ≡ 7 → s ≡ true
@@ -34,8 +45,7 @@ pub returns-in-Clear : goal.returns-in-Clear
 returns-in-Clear c = rw (as-true c.requires.ready (sym c.in-Ok.ensures ∙ ap token_byte c.in-Clear.is)) c.clear.ensures
 
 pub returns-in_default : goal.returns-in_default
+unfolding range_token
 returns-in_default c =
-    let r = c.requires.ready in
-    let a = laws.ready_atom r c.requires.not_sign in
-    let t = token_of a.0 in
-    absurd (c.in_default.ensures.1 t.0 (t.1 ∙ sym (ap (λ (l : List ℕ). get_or l 0 0) a.1 ∙ head_is a.0 r.rest)))
+    let none = c.in_default.ensures.1 in
+    absurd (token-there c.requires.ready c.requires.not_sign (λ e. none (Range Value) (sym e)) (λ e. none Clear (sym e)) (λ e. none (Range Panel) (sym e)))
