@@ -1,11 +1,11 @@
 -- Laws of Read and Write: what is handed back and written follows from what the reading comes to. Assumes nothing.
 use mathlib.Core.Path.{◌≡◌, sym, ap, ◌∙◌}
-use mathlib.Core.Bool.{true, false}
+use mathlib.Core.Bool.{Bool, true, false, not, cond}
 use mathlib.Core.List.{List, [], ◌∷◌}
 use Prim.Native.Nat.{ℕ, ◌<◌, ◌≤◌}
 use native.Mathlib.Omega.{arith}
-use borrow.Author.Tests.{lt-ltb, le-ltb}
-use lib.Dec.{ltb}
+use borrow.Author.Tests.{lt-ltb, le-ltb, leb-true, leb-false, not-true, not-false}
+use lib.Dec.{leb, ltb}
 use lib.ListN.{length, take}
 use lib.Seq.{length-take-le}
 use Rattle.model.specs.Limits.{limits}
@@ -42,19 +42,23 @@ module _ {log : List ℕ} {s : State} {k : ℕ} {list t : List ℕ} (a : Accepts
   size : length list ≡ limits.list → k ≡ length (list_of a.reading.frames)
   size l = sym (length-take-le k list (omega (arith, a.short))) ∙ ap length a.listed
 
-  pub read_no_room : length out < limits.list → ReadMet log out (refuses 12 0) out
-  unfolding read_op read_effect
-  read_no_room n =
-      let h : ltb (length out) limits.list ≡ true = lt-ltb (length out) limits.list n in
-      read_met log out (refuses 12 0) out (rw (a.is, h)) (rw (a.is, h))
+  -- b is what `put_list` hands back
+  module _ (b : Bool) (is : b ≡ leb limits.list (length out)) (out' : List ℕ) (put : out' ≡ cond (leb limits.list (length out)) (put_of out 0 (take k list)) out) where
+    pub read_no_room : not b ≡ true → ReadMet log out (refuses 12 0) out'
+    unfolding read_op read_effect
+    read_no_room n =
+        let f : leb limits.list (length out) ≡ false = sym is ∙ not-true b n in
+        let h : ltb (length out) limits.list ≡ true = lt-ltb (length out) limits.list (leb-false limits.list (length out) f) in
+        read_met log out (refuses 12 0) out' (rw (a.is, h)) (put ∙ rw (f, a.is, h))
 
-  pub read_done : limits.list ≤ length out → length list ≡ limits.list → ReadMet log out (gives (s.stations ∷ s.events ∷ s.questions ∷ k ∷ [])) (put_of out 0 (take k list))
-  unfolding read_op read_effect
-  read_done n l =
-      let h : ltb (length out) limits.list ≡ false = le-ltb (length out) limits.list n in
-      read_met log out (gives (s.stations ∷ s.events ∷ s.questions ∷ k ∷ [])) (put_of out 0 (take k list))
-      (rw (a.is, h, a.holds.stored.size, a.holds.events, a.holds.questions, size l))
-      (put_front out (take k list) ∙ rw (a.is, h, a.listed))
+    pub read_done : not b ≡ false → length list ≡ limits.list → ReadMet log out (gives (s.stations ∷ s.events ∷ s.questions ∷ k ∷ [])) out'
+    unfolding read_op read_effect
+    read_done n l =
+        let f : leb limits.list (length out) ≡ true = sym is ∙ not-false b n in
+        let h : ltb (length out) limits.list ≡ false = le-ltb (length out) limits.list (leb-true limits.list (length out) f) in
+        read_met log out (gives (s.stations ∷ s.events ∷ s.questions ∷ k ∷ [])) out'
+        (rw (a.is, h, a.holds.stored.size, a.holds.events, a.holds.questions, size l))
+        (put ∙ rw (f, put_front out (take k list), a.is, h, a.listed))
 
 -- WRITE
 

@@ -1,4 +1,8 @@
 -- What `load` comes to decides; the list is put at the front of the output. Assumes nothing.
+use mathlib.Core.Path.{ap}
+use mathlib.Core.Bool.{not}
+use native.Mathlib.Omega.{arith}
+use lib.ListN.{length-take}
 use Rattle.std.proofs.lemmas.Result.{err_from_is_err_and}
 use Rattle.model.specs.Limits.{limits}
 use Rattle.load.specs.Loading.{Accepts}
@@ -15,10 +19,17 @@ returns-in_err-state c = let r = err_from_is_err_and c.from_residual.result c.fr
     let m = read_refused _ c.args.out.now (rw c.limits.ensures at c.in_err-state.ensures.loads) in
     rw (r.1, r.2) (record { result_value = m.0; out_after = m.1.0; rewritten = m.1.1 })
 
-pub returns-then-out-lt-LIST : goal.returns-then-out-lt-LIST
-returns-then-out-lt-LIST c = let m = read_no_room (accepts (goal.at.returns-then-out-lt-LIST c).In_ok-state) _ c.if-out-lt-LIST.true in
+pub put_list-requires : goal.put_list-requires
+put_list-requires c = let a = accepts (goal.at.put_list-requires c).In_ok-state in simp length-take (omega (arith, a.short))
+
+pub returns-then-not-put_list : goal.returns-then-not-put_list
+returns-then-not-put_list c =
+    let p = c.put_list.ensures in
+    let m = read_no_room (accepts (goal.at.returns-then-not-put_list c).In_ok-state) _ _ p.value _ p.out_after (ap not c.if-not-put_list.true) in
     rw c.into.ensures (record { result_value = m.0; out_after = m.1.0; rewritten = m.1.1 })
 
 pub returns : goal.returns
-returns c = let m = read_done (accepts (goal.at.returns c).In_ok-state) _ c.if-out-lt-LIST.false c.load.array_long in
-    rw c.put.ensures (record { result_value = m.0; out_after = m.1.0; rewritten = m.1.1 })
+returns c =
+    let p = c.put_list.ensures in
+    let m = read_done (accepts (goal.at.returns c).In_ok-state) _ _ p.value _ p.out_after (ap not c.if-not-put_list.false) c.load.array_long in
+    record { result_value = m.0; out_after = m.1.0; rewritten = m.1.1 }
