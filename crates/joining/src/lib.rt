@@ -40,6 +40,14 @@ fn pair_all(ws: &mut [u8], bs: &mut [u8], l: Sets, r: Sets, x: Shape, starts: &[
     p
 }
 
+// The rounds of two operands: the right one is worked out also where the left basis is empty.
+fn rounds_of(l: Basis, r: Basis) -> u32
+    requires { (l.rounds ≤ rounds_most) × (r.rounds ≤ rounds_most) }
+    ensures { result ≡ l.rounds + r.rounds }
+{
+    l.rounds + r.rounds
+}
+
 // Structures one behind the other, with their marks as far as there is room for them.
 fn both(l: Sets, r: Sets) -> Sets
     requires { (l.count ≤ 16) × (r.count ≤ 16) }
@@ -54,7 +62,7 @@ fn both(l: Sets, r: Sets) -> Sets
     }
 }
 
-// Two bases that stand one behind the other: their pairs, or both. The right one is worked out also where the left one is empty.
+// Two bases that stand one behind the other: their pairs, or both.
 // By a flag: the contract goes by it, and a closure for either step would need one of its own.
 pub fn combine(
     ws: &mut [u8],
@@ -75,7 +83,7 @@ pub fn combine(
     ensures { (result.used ≡ l.used + 1 + r.used) × Combined pair x l.sets r.sets l.rounds r.rounds starts.now ws.old ws.new bs.old bs.new result.sets result.rounds }
 {
     let used = l.used + 1 + r.used;
-    let rounds = l.rounds + r.rounds;
+    let rounds = rounds_of(l, r);
     if pair {
         let p = pair_all(ws, bs, l.sets, r.sets, x, starts);
         return unmarked(p.count, used, rounds + p.rounds);
