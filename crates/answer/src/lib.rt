@@ -29,10 +29,12 @@ pub fn answer(
     let mut list = [0u8; Log::LIST];
     let mut store = [0u8; Log::STORE];
     let loaded = open_log(limits::limits(), log, question, &mut list, &mut store)?;
-    if cramped(&list, loaded, question, ws.len(), bs.len()) {
+    let tight = cramped(&list, loaded, question, ws.len(), bs.len());
+    let short = out.len() < Log::LINE;
+    if tight {
         return Err(Fault::Workspace.into());
     }
-    if out.len() < Log::LINE {
+    if short {
         return Err(Fault::Output.into());
     }
     Ok(answer_one(&list, &store, loaded, question, ws, bs, out))

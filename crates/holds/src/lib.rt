@@ -36,10 +36,12 @@ pub fn holds(
         counts,
         ..
     } = loaded.state;
-    if !consistent(cut, &store, stations, &counts) {
+    let inside = consistent(cut, &store, stations, &counts);
+    let small = cramped(&list, loaded, question, ws.len(), bs.len());
+    if !inside {
         return Err(Fault::Cut.into());
     }
-    if cramped(&list, loaded, question, ws.len(), bs.len()) {
+    if small {
         return Err(Fault::Workspace.into());
     }
     Ok(test_cut(&list, &store, loaded, question, cut, ws, bs))
