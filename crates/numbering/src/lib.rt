@@ -47,17 +47,43 @@ fn put_row(table: &mut Table, k: usize, row: &[u8; 8], code: &Code)
     cells::copy(table, k * 8, &t, 0, 8);
 }
 
-// The e + 1 rows at a place of ws, as a table. Past n cells a row is not looked at: eight are read where there are as many.
+// Eight cells at a place.
+fn eight(ws: &[u8], at: usize) -> &[u8; 8]
+    requires { at + 8 ≤ length ws.now }
+    ensures { result.now ≡ take 8 (drop at ws.now) }
+{
+    ws[at..at + 8].first_chunk::<8>().unwrap()
+}
+
+// Rows that may have no eight cells from their first on.
+fn put_few(table: &mut Table, ws: &[u8], at: usize, n: usize, e: usize, code: &Code)
+    requires { (n ≤ 8) × (e ≤ 254) × (at + (e + 1) * n ≤ length ws.now) × Coding n code.now }
+    ensures { Copied code.now n ws.now at (e + 1) table.new }
+{
+    for k in 0..e + 1 {
+        put_row(table, k, &cells::cut_at(ws, at + k * n, n), code);
+    }
+}
+
+// Rows that have them: past n cells a row is not looked at.
+fn put_many(table: &mut Table, ws: &[u8], at: usize, n: usize, e: usize, code: &Code)
+    requires { (n ≤ 8) × (e ≤ 254) × (at + e * n + 8 ≤ length ws.now) × Coding n code.now }
+    ensures { Copied code.now n ws.now at (e + 1) table.new }
+{
+    for k in 0..e + 1 {
+        put_row(table, k, eight(ws, at + k * n), code);
+    }
+}
+
+// The e + 1 rows at a place of ws, as a table. Which of the two it is, is asked once a table and not once a row.
 pub fn put_rows(table: &mut Table, ws: &[u8], at: usize, n: usize, e: usize, code: &Code)
     requires { (n ≤ 8) × (e ≤ 254) × (at + (e + 1) * n ≤ length ws.now) × Coding n code.now }
     ensures { (K : Computation) (R : ℕ → ℕ → Option Cut) → Small K → stations K ≡ n → event_count K ≡ e → Offsets K code.now → Rows K R n at ws.now → Slots K R table.new }
 {
-    for k in 0..e + 1 {
-        let from = at + k * n;
-        match ws[from..].first_chunk::<8>() {
-            Some(row) => put_row(table, k, row, code),
-            None => put_row(table, k, &cells::cut_at(ws, from, n), code),
-        }
+    if ws.len() - (at + e * n) < 8 {
+        put_few(table, ws, at, n, e, code);
+    } else {
+        put_many(table, ws, at, n, e, code);
     }
 }
 

@@ -1,7 +1,7 @@
--- `numbering::put_rows` meets its contract: after k rows they stand in the table.
+-- `numbering::put_few` meets its contract: after k rows they stand in the table.
 use Rattle.std.proofs.Common.{◌≡◌, length}
 use Rattle.numbering.specs.Rows.{Copied}
-use Rattle.numbering.proofs.put_rows.Given as goal
+use Rattle.numbering.proofs.put_few.Given as goal
 
 abbrev pub invariant-loop-k : goal.invariant-loop-k
 invariant-loop-k l = record {
