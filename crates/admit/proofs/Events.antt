@@ -66,7 +66,7 @@ module _ (s : State) (f : List ℕ) (formed : event_form s.panelled s.stations (
   report_same r e = ap₂ report_of e (sym (drop-drop 1 1 f))
 
   -- what the code's test of the clock says
-  tested : {t : List ℕ} (x : Bool) → ((K : Computation) → Stored K s.stations s.counts t → x ≡ clock_ok K (get_or f 1 0) (clock_in s f))
+  pub tested : {t : List ℕ} (x : Bool) → ((K : Computation) → Stored K s.stations s.counts t → x ≡ clock_ok K (get_or f 1 0) (clock_in s f))
       → (r : Reading) → Represents r s t → clock_ok r.computation (station_of (drop 1 f)) (event_of r.panelled (drop 1 f)).clock ≡ x
   tested x e r h = rw (get_or-drop 1 f 0 0, clock_same r h.panelled) (sym (e r.computation h.stored))
 

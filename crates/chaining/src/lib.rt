@@ -15,7 +15,7 @@ ghost use Rattle.picking.specs.Formed.{Formed};
 ghost use Rattle.chaining.specs.Table.{Tells, Chained, Given, Low, Wrote};
 
 use cells::NONE;
-use picking::Station;
+pub use picking::Station;
 use slots::Table;
 
 // The tables: for the number of an event the cut to join, the cut a round before, and the rounds less one. At 0 there is nothing to look up, and at

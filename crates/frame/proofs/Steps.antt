@@ -3,6 +3,7 @@ use mathlib.Core.Path.{◌≡◌, refl, sym, ap}
 use mathlib.Core.Bool.{Bool, true, false, ◌&&◌}
 use mathlib.Core.List.{List, [], ◌∷◌}
 use Prim.Native.Nat.{ℕ, ◌<◌, ◌≤◌}
+use native.Mathlib.Nat.{le_trans}
 use native.Mathlib.Omega.{arith}
 use lib.Dec.{ltb}
 use borrow.Author.Tests.{eq-eqb, ne_eqb, lt-ltb, le-ltb}
@@ -14,7 +15,8 @@ use Rattle.model.specs.Codes.{kind_byte}
 use Rattle.model.specs.Computation.{stations}
 use Rattle.model.specs.Reading.{Reading, header_kind, begun, unasked, admit, admit_header, admit_event, admit_message, admit_question, fault}
 use Rattle.frame.specs.declared.State.{State}
-use Rattle.frame.specs.State.{is_open, Represents}
+use Rattle.codec.specs.Limits.{NoLarger}
+use Rattle.frame.specs.State.{is_open, Bounded, Represents}
 
 -- THE KIND
 module _ (m : Limits) (r : Reading) where
@@ -69,3 +71,14 @@ module _ {r : Reading} {s : State} {t : List ℕ} (h : Represents r s t) where
 
     pub questions-room : s.questions < m.questions → ltb (length r.questions) m.questions ≡ true
     questions-room e = lt-ltb (length r.questions) m.questions (omega (arith, h.questions))
+
+-- what keeps some limits keeps larger ones
+pub bounded_up : {m m' : Limits} {s : State} → NoLarger m m' → Bounded m s → Bounded m' s
+bounded_up up b = record {
+  few_stations = le_trans b.few_stations up.stations;
+  few_events = le_trans b.few_events up.events;
+  few_messages = le_trans b.few_messages up.messages;
+  few_questions = le_trans b.few_questions up.questions;
+  eight = b.eight;
+  each = b.each;
+}

@@ -27,7 +27,9 @@ use Rattle.walk.proofs.Carried.{items-frame, items-check, items_end}
 use Rattle.frame.specs.declared.State.{State}
 use Rattle.load.specs.declared.Position.{Position}
 use Rattle.frame.specs.State.{fresh, Bounded, Represents, Goes, Admitted, Faulty}
-use Rattle.load.specs.Loading.{first, Sofar, Left, Ends, Passes, Tries, Within, Reads, Accepts}
+use Rattle.load.specs.declared.Loaded.{Loaded}
+use Rattle.load.specs.declared.Unread.{Unread}
+use Rattle.load.specs.Loading.{first, Sofar, Left, Ends, Passes, Tries, Within, Reads, Accepts, Loads}
 use Rattle.frame.proofs.Steps.{begun-not, begun_yes}
 use Rattle.frame.proofs.Headers.{zero-at}
 
@@ -190,6 +192,10 @@ module _ {m : Limits} (log : List ℕ) {p : Position} {list t : List ℕ} (w : W
 -- as the code hands them over
 pub loading_first : {m : Limits} (log list t : List ℕ) (p : Position) → p ≡ first → length log ≤ m.bytes → Within m log p × Left p.length list list × Sofar m (read_log m log) (items (lines_of (drop p.at log))) p list t
 loading_first {m} log list t p e h = rw e (within_first log, record { behind = refl }, sofar-first list t (read-items m log h))
+
+-- a log is accepted where loading it comes to a state
+pub to_accepts : {m : Limits} {r : std.Result Loaded Unread} {log list t : List ℕ} (l : Loaded) → r ≡ Ok l → Loads m log r list t → Accepts m log l.state l.length list t
+to_accepts l e h = rw e at h
 
 -- the limits as the code hands them over
 pub print_no_larger : (m : Limits) → m ≡ print_limits → NoLarger m limits

@@ -39,7 +39,7 @@ pub fn number(before: usize, k: usize) -> usize
 // The number that a count of a station with `most` events says, if there is such an event.
 fn number_of(count: u8, before: usize, most: usize) -> Option<u8>
     requires { before + most ≤ 254 }
-    ensures { (K : Computation) (s : ℕ) → before ≡ total (take s (full K)) → count ≤ most → result ≡ Some (number K s count) }
+    ensures { ((K : Computation) (s : ℕ) → before ≡ total (take s (full K)) → count ≤ most → result ≡ Some (number K s count)) × (most < count → result ≡ None) }
 {
     let k = usize::from(count);
     if most < k {

@@ -1,10 +1,16 @@
 use mathlib.Core.Path.{sym, ap, ◌∙◌}
 use mathlib.Core.Bool.{Bool, ◌||◌}
-use Prim.Native.Nat.{◌+◌}
+use Prim.Native.Nat.{◌+◌, ◌*◌, ◌≤◌}
 use native.Mathlib.Omega.{arith}
-use lib.ListN.{take}
+use lib.ListN.{length, take}
 use Rattle.structure.proofs.Bars.{barred_from, bars_all, bars_end, bars_unused, bars-here}
+use Rattle.structure.proofs.Places.{next_fits}
 use Rattle.structure.proofs.barred.Goals as goal
+use Rattle.structure.proofs.barred.Goals.{In-loop-i}
+
+-- The bar of a turn lies among the bars.
+room : (c : In-loop-i) → c.loop-i.i * c.args.n + c.args.n ≤ length c.args.bars.now
+room c = omega (arith, next_fits c.loop-i.i 16 c.args.n c.loop-i-test.true, c.requires)
 
 pub loop-i-init : goal.loop-i-init
 loop-i-init c = bars_all c.args.n (take c.args.n c.args.cut.now) c.args.bars.now
