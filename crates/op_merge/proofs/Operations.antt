@@ -12,6 +12,7 @@ use Rattle.model.specs.Reading.{Reading, Result, refused, accepted, read_log}
 use Rattle.model.specs.Reply.{Reply, gives, refuses}
 use Rattle.model.specs.Operations.{merged_log, too_wide_together, too_many_together, merge_effect, merge_op}
 use Rattle.model.specs.Promise.{Merges}
+use Rattle.codec.proofs.Cases.{or-false}
 use Rattle.codec.proofs.Suited.{suitable}
 use Rattle.codec.proofs.MergeLog.{merge_kept}
 use Rattle.cells.specs.Put.{put_of}
@@ -37,13 +38,8 @@ accepts_opened {log} a = record {
 pub not_wide : {b : Bool} {m n : ℕ} → b ≡ ltb m n → b ≡ false → n ≤ m
 not_wide {b} {m} {n} e f = ltb-false m n (sym e ∙ f)
 
-neither : (a b : Bool) → (a || b) ≡ false → (a ≡ false) × (b ≡ false)
-neither false false e = (refl, refl)
-neither false true e = cc
-neither true b e = cc
-
 pub few : {b : Bool} {m n k l : ℕ} → b ≡ (ltb m n || ltb k l) → b ≡ false → (n ≤ m) × (l ≤ k)
-few {b} {m} {n} {k} {l} e f = let p = neither (ltb m n) (ltb k l) (sym e ∙ f) in (ltb-false m n p.0, ltb-false k l p.1)
+few {b} {m} {n} {k} {l} e f = let p = or-false (ltb m n) (ltb k l) (sym e ∙ f) in (ltb-false m n p.0, ltb-false k l p.1)
 
 -- TWO ACCEPTED LOGS
 
