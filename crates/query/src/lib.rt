@@ -62,24 +62,24 @@ fn measure(q: &[u8], n: usize, sign: bool) -> Option<Size>
     ensures { Measured n sign q.now result }
 {
     let (t, rest) = q.split_first()?;
-    match Token::try_from(*t).ok()? {
-        Token::Not => {
-            let z = measure(rest, n, !sign)?;
-            Some(longer(z, z.extent))
-        }
-        token @ (Token::And | Token::Or) => {
-            let y = measure(rest, n, sign)?;
-            let z = measure(&rest[y.used..], n, sign)?;
-            Some(paired(matches!(token, Token::And), sign, &y, &z))
-        }
-        token @ (Token::Possibly | Token::Always) => {
-            let possibly = matches!(token, Token::Possibly);
-            let z = measure(rest, n, possibly)?;
-            Some(modal(possibly, sign, z))
-        }
-        // A token that is no sign: an atom more needs no arm here.
-        _ => leaf(*t, rest, n, sign),
+    let token = Token::try_from(*t).ok()?;
+    // By tests, since a match over the signs clears the places of all operands first, at every token.
+    if matches!(token, Token::Not) {
+        let z = measure(rest, n, !sign)?;
+        return Some(longer(z, z.extent));
     }
+    if matches!(token, Token::And | Token::Or) {
+        let y = measure(rest, n, sign)?;
+        let z = measure(&rest[y.used..], n, sign)?;
+        return Some(paired(matches!(token, Token::And), sign, &y, &z));
+    }
+    if matches!(token, Token::Possibly | Token::Always) {
+        let possibly = matches!(token, Token::Possibly);
+        let z = measure(rest, n, possibly)?;
+        return Some(modal(possibly, sign, z));
+    }
+    // A token that is no sign: an atom more needs no test here.
+    leaf(*t, rest, n, sign)
 }
 
 // Whether the question is one formula, its atoms sound, not too large, and each atom can be worked out; if so, its figures.
