@@ -1,7 +1,7 @@
 -- Slots of the event table: they lie apart, and report and clock follow from their bytes. Assumes nothing.
 use mathlib.Core.Path.{◌≡◌, refl, sym, ap, ◌∙◌}
 use mathlib.Core.Logic.{◌⊎◌, inl, inr}
-use mathlib.Core.List.{List, [], ◌∷◌, ◌++◌}
+use mathlib.Core.List.{List, ◌++◌}
 use Prim.Native.Nat.{ℕ, ◌+◌, ◌≤◌}
 use native.Mathlib.Omega.{arith}
 use lib.Dec.{ltb}
@@ -11,7 +11,7 @@ use lib.ListN.{length, take, drop}
 use lib.Seq.{get_or-take, get_or-drop, drop-drop, take-take}
 use Rattle.model.specs.Limits.{limits, stored_report, slot_size}
 use Rattle.model.specs.Frames.{word}
-use Rattle.model.specs.Reading.{report_of, report_size}
+use Rattle.model.specs.Reading.{report_of}
 use Rattle.cells.specs.Put.{put_of}
 use Rattle.cells.proofs.Puts.{put-put}
 use Rattle.cells.proofs.Parts.{drop-take}
@@ -60,19 +60,7 @@ module _ (a : ℕ) (t t' : List ℕ) (e : take slot_size (drop a t') ≡ take sl
       clock-at limits.stations a t' (take slot_size (drop a t)) e n h
       ∙ sym (clock-at limits.stations a t (take slot_size (drop a t)) refl n h)
 
--- The report at the front of a frame, and zeros behind it.
-pub report-front : (p : Bool) (f : List ℕ) → report_size p ≤ length f → take (report_size p) f ++ drop (report_size p) (0 ∷ 0 ∷ 0 ∷ 0 ∷ []) ≡ report_bytes p f
-unfolding report_size
-report-front true (a ∷ b ∷ c ∷ d ∷ f) h = refl
-report-front true (a ∷ b ∷ c ∷ []) h = absurd (omega arith)
-report-front true (a ∷ b ∷ []) h = absurd (omega arith)
-report-front true (a ∷ []) h = absurd (omega arith)
-report-front true [] h = absurd (omega arith)
-report-front false (a ∷ b ∷ f) h = refl
-report-front false (a ∷ []) h = absurd (omega arith)
-report-front false [] h = absurd (omega arith)
-
--- It is put, and a clock behind it.
+-- A report is put, and a clock behind it.
 pub slot-put : (d x y r b v : List ℕ) (a : ℕ) → a ≤ length d → length b ≡ stored_report → r ≡ b → x ≡ put_of d a r → y ≡ put_of x (a + stored_report) v → y ≡ put_of d a (b ++ v)
 slot-put d x y r b v a h l e p q = rw (q, p, e, ← l) (put-put d b v a h)
 

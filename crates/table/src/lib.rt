@@ -44,8 +44,12 @@ fn report(frame: &[u8], from: usize, panelled: bool) -> [u8; 4]
     ensures { result ≡ report_bytes panelled (drop from frame.now) }
 {
     let mut r = [0u8; model::Log::REPORT];
-    let size = report_size(panelled);
-    r[..size].copy_from_slice(&frame[from..from + size]);
+    // Two copies, each of a length that is written out: one of either length would be a call.
+    if panelled {
+        r.copy_from_slice(&frame[from..from + 4]);
+    } else {
+        r[..2].copy_from_slice(&frame[from..from + 2]);
+    }
     r
 }
 

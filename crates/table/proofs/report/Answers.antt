@@ -1,12 +1,10 @@
--- The report's bytes, over zeros. Assumes nothing.
-use Rattle.std.proofs.Common.{◌≡◌, ◌+◌, ◌-◌, drop, arith, length-drop}
-use Rattle.model.specs.Reading.{report_size}
-use Rattle.table.proofs.Slots.{report-front}
+-- The report's bytes are there. Assumes nothing.
+use native.Mathlib.Omega.{arith}
+use Rattle.lattice.proofs.Reports.{report-size, size-carried}
 use Rattle.table.proofs.report.Goals as goal
 
-pub returns : goal.returns
-returns c =
-    let a = c.args in
-    let z = c.report_size-size.ensures.0 in
-    let e : a.from + c.report_size-size.result - a.from ≡ report_size a.panelled = omega (arith, z) in
-    rw (c.copy_from_slice.ensures.after, e, z) (report-front a.panelled (drop a.from a.frame.now) (omega (arith, c.requires, length-drop a.from a.frame.now)))
+pub slice_bounds-copy_from_slice-end-then-panelled : goal.slice_bounds-copy_from_slice-end-then-panelled
+slice_bounds-copy_from_slice-end-then-panelled c = omega (arith, size-carried _ c.if-panelled.true, c.requires)
+
+pub slice_bounds-copy_from_slice-end-else-panelled-2 : goal.slice_bounds-copy_from_slice-end-else-panelled-2
+slice_bounds-copy_from_slice-end-else-panelled-2 c = omega (arith, report-size c.args.panelled, c.requires)
