@@ -1,9 +1,10 @@
 -- Laws of join and of the test for containment, station by station.
-use Rattle.std.proofs.Common.{◌≡◌, ℕ, zero, suc, ◌+◌, ◌≤◌, ◌<◌, max, Bool, true, false, [], ◌∷◌, length, get_or, take, drop, replicate, refl, sym, ap, ◌∙◌, inl, inr, arith}
+use Rattle.std.proofs.Common.{◌≡◌, ℕ, zero, suc, ◌+◌, ◌≤◌, ◌<◌, max, Bool, true, false, not, Option, None, Some, [], ◌∷◌, length, get_or, take, drop, replicate, refl, sym, ap, ◌∙◌, inl, inr, arith}
 use Rattle.std.proofs.lemmas.List.{ext_get_or, get_or_past, length-take-le, length-drop, get_or-take, get_or-drop, take-take}
 use Rattle.std.proofs.lemmas.Slice.Zip.{length-zip, get_or-zip}
-use Rattle.std.proofs.lemmas.Bool.{cases_lt}
+use Rattle.std.proofs.lemmas.Bool.{cases_lt, not-false, not-true}
 use Rattle.std.specs.Bool.{MatchBool}
+use Rattle.std.specs.Option.{MatchOption, is_some}
 use Rattle.std.specs.List.{AllWithin, HoldsAt, zip}
 use Rattle.std.proofs.Math.Nat.{max_comm, zero-max}
 use Rattle.model.specs.Cut.{Cut, join, inside}
@@ -74,6 +75,13 @@ inside_all a b false l (k, m, h) =
     let n : k < length a = omega (arith, length-zip a b) in
     let e : get_or b k 0 < get_or a k 0 = rw (get_or-zip a b k (0, 0) n (omega arith)) at (h (0, 0)) in
     outside_at a b k e
+
+-- What the place of the first cell that is above says of it.
+pub inside_none : (a b : Cut) (r : Option ℕ) (x : Bool) → length a ≡ length b → is_some r ≡ not x
+    → MatchOption r (AllWithin (λ p. p.0 ≤ p.1) (zip a b) 0 (length (zip a b))) (λ k. (k < length (zip a b)) × HoldsAt (λ p. p.1 < p.0) (zip a b) k × AllWithin (λ p. p.0 ≤ p.1) (zip a b) 0 k)
+    → x ≡ inside a b
+inside_none a b None x l e h = not-false x (sym e) ∙ inside_all a b true l h
+inside_none a b (Some k) x l e h = not-true x (sym e) ∙ inside_all a b false l (k, h.0, h.1)
 
 -- The first n counts of a join with more.
 pub join_front : (a r : Cut) (n m : ℕ) → n ≤ m → take n (join a (take m r)) ≡ join (take n a) (take n r)
